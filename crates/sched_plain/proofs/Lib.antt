@@ -1,0 +1,4 @@
+pub mod WordLemmas
+pub mod IdLemmas
+pub mod Histories
+pub mod SpellingRows
