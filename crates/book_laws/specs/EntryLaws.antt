@@ -1,0 +1,33 @@
+-- The entries of a legal history against its occurrences.
+use Rattle.std.specs.Prelude.{◌≡◌, ℕ, ◌<◌, nat_le, Option, Some, None, List, []}
+use Rattle.std.specs.List.{AllPairs, filter}
+use Rattle.sched_plain.specs.History.{History}
+use Rattle.sched_plain.specs.Calendar.{Calendar}
+use Rattle.sched_plain.specs.Occurrences.{occ}
+use Rattle.sched_plain.specs.Ledger.{ledger_of}
+use Rattle.sched_plain.specs.Entries.{entries, instants_of}
+use Rattle.sched_plain.specs.Marks.{unentered, cover, mark}
+use Rattle.sched_plain.specs.Legal.{IsLegal}
+
+-- the occurrences of an incarnation up to its mark: none where it has no mark
+abbrev pub occ_upto : Calendar → History → ℕ → Option ℕ → List ℕ
+occ_upto c h inc None = []
+occ_upto c h inc (Some t) = occ c h inc t
+
+-- the instants of the entries of an incarnation are its occurrences up to its mark
+abbrev pub EntriesAreOccurrences : Type 0
+EntriesAreOccurrences =
+    (c : Calendar) (h : History) → IsLegal c h → (inc : ℕ)
+    → instants_of (entries (ledger_of h) inc) ≡ occ_upto c h inc (mark h inc)
+
+-- each of them is below each later one, so that each stands once
+abbrev pub EntriesRise : Type 0
+EntriesRise =
+    (c : Calendar) (h : History) → IsLegal c h → (inc : ℕ)
+    → AllPairs (λ earlier later. earlier < later) (instants_of (entries (ledger_of h) inc))
+
+-- what is unentered up to a moment are the occurrences up to it from the cover on
+abbrev pub UnenteredAreTheRest : Type 0
+UnenteredAreTheRest =
+    (c : Calendar) (h : History) → IsLegal c h → (inc t : ℕ)
+    → unentered c h inc t ≡ filter (λ i. nat_le (cover h inc) i) (occ c h inc t)

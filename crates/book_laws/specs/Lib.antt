@@ -1,0 +1,9 @@
+pub mod PrefixLaws
+pub mod MomentLaws
+pub mod TokenLaws
+pub mod EntryLaws
+pub mod AttemptLaws
+pub mod OutcomeLaws
+pub mod SweepLaws
+pub mod CountLaws
+pub mod LetterLaws
