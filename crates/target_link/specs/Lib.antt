@@ -1,0 +1,10 @@
+pub mod Address
+pub mod Attempt
+pub mod Keywords
+pub mod Known
+pub mod Script
+pub mod Spares
+pub mod Tcp
+pub mod Time
+pub mod Told
+pub mod Verdict
