@@ -1,0 +1,6 @@
+pub mod ByteLemmas
+pub mod DeviceLemmas
+pub mod HeadLemmas
+pub mod HeaderLemmas
+pub mod FrameLemmas
+pub mod BatchLemmas

@@ -1,0 +1,104 @@
+//! The words of the top call.
+ghost use Rattle.std.specs.Prelude.{◌≡◌, ◌↔◌, map, IsTrue};
+ghost use Rattle.sched_plain.specs.History.{beginning};
+ghost use Rattle.sched_top.specs.Batch.{IsBatch, is_end_status, is_exit_status, RunFinished, RunStopped, RunWanting, RunUnframed, RunCutOff};
+ghost use Rattle.sched_top.specs.Devices.{Rose};
+
+use crate::batch::{BatchEnd, run_batch};
+use crate::sink::Sink;
+use crate::source::Source;
+use std::alloc::Global;
+use target_link::Link;
+
+/// The input was read to its end, and every request was answered.
+const FINISHED: u8 = 0;
+
+/// The words are no command.
+const FAULTY_WORDS: u8 = 2;
+
+/// A call of the source failed.
+const SOURCE_FAILED: u8 = 3;
+
+/// A call of the sink failed.
+const SINK_FAILED: u8 = 4;
+
+/// Memory was wanted outside a request.
+const OUT_OF_MEMORY: u8 = 7;
+
+/// A request could not be framed.
+const UNFRAMED: u8 = 8;
+
+/// Whether the words are `batch` alone.
+fn is_batch(words: &[&str]) -> bool
+    ensures { IsTrue result ↔ IsBatch (map (λ word. word.now) words.now) }
+{
+    match words {
+        ["batch"] => true,
+        _ => false,
+    }
+}
+
+fn status_of(end: BatchEnd) -> u8
+    ensures finished { result ≡ 0 ↔ end ≡ BatchEnd.Finished }
+    ensures source_failed { result ≡ 3 ↔ end ≡ BatchEnd.SourceFailed }
+    ensures sink_failed { result ≡ 4 ↔ end ≡ BatchEnd.SinkFailed }
+    ensures memory { result ≡ 7 ↔ end ≡ BatchEnd.OutOfMemory }
+    ensures unframed { result ≡ 8 ↔ end ≡ BatchEnd.Unframed }
+    ensures statuses { IsTrue (is_end_status result) }
+{
+    match end {
+        BatchEnd::Finished => FINISHED,
+        BatchEnd::SourceFailed => SOURCE_FAILED,
+        BatchEnd::SinkFailed => SINK_FAILED,
+        BatchEnd::OutOfMemory => OUT_OF_MEMORY,
+        BatchEnd::Unframed => UNFRAMED,
+    }
+}
+
+/// The top call: runs the command that the words say over a source, a sink and a link to targets, and returns the
+/// program's exit status. It waits for nobody and always returns. The one command is `batch`.
+///
+/// `batch` starts the service upon an empty history and answers the requests of the source (RFC 9112) one after
+/// the other, each before the next is read. Until requests are served each gets a refusal.
+///
+/// | status | comes |
+/// |---|---|
+/// | 0 | the source was read to its end, and every request was answered |
+/// | 2 | exactly where the words are no command; nothing was read or written |
+/// | 3 | a call of the source failed; every request before was answered |
+/// | 4 | a call of the sink failed; a front of the answers was taken |
+/// | 7 | memory was wanted outside a request; every request before was answered |
+/// | 8 | a request could not be framed, and that was answered; nothing was read or written after it |
+pub fn run_words<S: Source, K: Sink, L: Link>(
+    alloc: Global,
+    words: &[&str],
+    source: &mut S,
+    sink: &mut K,
+    link: &mut L,
+) -> u8
+    ensures usage { (result ≡ 2) ↔ ¬ (IsBatch (map (λ word. word.now) words.now)) }
+    ensures untouched { result ≡ 2 → (source.new ≡ source.old) × (sink.new ≡ sink.old) }
+
+    ensures finished { result ≡ 0
+        → RunFinished beginning (S.left source.old) (S.left source.new) (K.got sink.old) (K.got sink.new) }
+    ensures source_failed { result ≡ 3
+        → RunStopped beginning (S.left source.old) (S.left source.new) (K.got sink.old) (K.got sink.new) }
+    ensures source_rose { result ≡ 3 → Rose (S.faults source.old) (S.faults source.new) }
+    ensures sink_failed { result ≡ 4
+        → RunCutOff beginning (S.left source.old) (S.left source.new) (K.got sink.old) (K.got sink.new) }
+    ensures sink_rose { result ≡ 4 → Rose (K.faults sink.old) (K.faults sink.new) }
+    ensures memory { result ≡ 7
+        → RunWanting beginning (S.left source.old) (S.left source.new) (K.got sink.old) (K.got sink.new) }
+    ensures unframed { result ≡ 8
+        → RunUnframed beginning (S.left source.old) (S.left source.new) (K.got sink.old) (K.got sink.new) }
+    ensures statuses { IsTrue (is_exit_status result) }
+
+    // Nothing is sent to targets.
+    ensures unsent { link.new ≡ link.old }
+{
+    if !is_batch(words) {
+        return FAULTY_WORDS;
+    }
+    let end = run_batch(alloc, source, sink);
+    status_of(end)
+}
