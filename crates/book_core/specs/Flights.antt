@@ -1,0 +1,10 @@
+-- Whether an attempt is among those that have no End yet.
+use Rattle.std.specs.Prelude.{ℕ, ◌==◌, ◌&&◌, Bool, List}
+use Rattle.std.specs.List.{list_any}
+use Rattle.book_core.specs.State.{Flight}
+
+abbrev pub is_flight : ℕ → ℕ → ℕ → Flight → Bool
+is_flight inc instant number flight = inc == flight.inc && instant == flight.instant && number == flight.number
+
+abbrev pub in_air : ℕ → ℕ → ℕ → List Flight → Bool
+in_air inc instant number flights = list_any (is_flight inc instant number) flights

@@ -1,0 +1,34 @@
+-- Bounds that the numbers of a sound history keep, so that the machine's sums fit.
+use Rattle.std.specs.Prelude.{ℕ, ◌+◌, ◌≤◌, Option, Some, None}
+use Rattle.sched_plain.specs.declared.entry.Filed.{Filed}
+use Rattle.sched_plain.specs.declared.entry.Last.{Last}
+use Rattle.sched_plain.specs.declared.entry.Last.TheVariants as lasts
+use Rattle.sched_plain.specs.Moments.{last_moment}
+use Rattle.book_core.specs.declared.track.Origin.{Origin}
+use Rattle.book_core.specs.declared.track.Track.{Track}
+
+-- the moment of the last attempt, or 0
+abbrev pub last_at : Last → ℕ
+last_at lasts.NoAttempt = 0
+last_at (lasts.Live at) = at
+last_at (lasts.Lost at) = at
+last_at (lasts.Ended at) = at
+
+-- no more attempts than the policy allows, and moments of the calendar
+pub record SmallFiled (filed : Filed) : Type 0 where
+  pub few : filed.entry.used ≤ filed.policy.retries + 1
+  pub retries : filed.policy.retries ≤ 185
+  pub chosen : filed.entry.chosen ≤ 7258204798
+  pub last : last_at filed.entry.last ≤ last_moment
+
+abbrev pub IsSmallFiled : Option Filed → Type 0
+IsSmallFiled None = Unit {0}
+IsSmallFiled (Some filed) = SmallFiled filed
+
+abbrev pub IsSmallOrigin : Option Origin → Type 0
+IsSmallOrigin None = Unit {0}
+IsSmallOrigin (Some origin) = (origin.policy.retries ≤ 185) × (origin.window ≤ 1440)
+
+pub record SmallTrack (t : Track) : Type 0 where
+  pub origin : IsSmallOrigin t.origin
+  pub filed : IsSmallFiled t.filed
