@@ -1,0 +1,15 @@
+pub mod AtLaws
+pub mod Bits
+pub mod CronLaws
+pub mod Cuts
+pub mod Digits
+pub mod FaultLemmas
+pub mod FieldLaws
+pub mod InsideLaws
+pub mod ItemsLaws
+pub mod Laws
+pub mod QuestionLaws
+pub mod RateLaws
+pub mod RowLaws
+pub mod SetLaws
+pub mod Texts

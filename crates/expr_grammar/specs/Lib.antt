@@ -1,0 +1,6 @@
+pub mod Answers
+pub mod Reading
+pub mod WordsLeft
+pub mod Items
+pub mod Parts
+pub mod Cron

@@ -1,0 +1,26 @@
+//! The expressions of schedules, `at(..)`, `rate(..)` and `cron(..)`, read from text and printed
+//! (EventBridge Scheduler User Guide, "Schedule types"). What a text spells, its first fault and the
+//! canonical spelling are defined in `sched_plain`; nothing here keeps state.
+#![tactic(auto)]
+
+mod at;
+mod bytes;
+mod cron;
+mod cron_field;
+mod cut;
+mod day_rule;
+mod fault;
+mod field;
+mod form;
+mod item;
+mod items;
+mod rate;
+mod read;
+mod row;
+#[cfg(test)]
+mod tests;
+mod value;
+mod words;
+
+pub use fault::ExprFault;
+pub use read::read_expr;
