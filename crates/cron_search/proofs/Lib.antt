@@ -1,0 +1,7 @@
+pub mod ShiftedSets
+pub mod DayNumbers
+pub mod MonthDays
+pub mod Fitting
+pub mod InTime
+pub mod Minutes
+pub mod RealSeconds

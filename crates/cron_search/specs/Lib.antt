@@ -1,0 +1,5 @@
+pub mod Calendar
+pub mod Fit
+pub mod First
+pub mod Search
+pub mod Levels
