@@ -5,8 +5,10 @@ ghost use Rattle.cron_search.specs.Calendar.{IsCivilDate, weekday_of, month_leng
 
 use jiff_core::civil;
 
+/// The number of Sunday in a week counted from 1.
 pub const SUNDAY: u8 = 1;
 
+/// The number of Saturday in a week counted from 1.
 pub const SATURDAY: u8 = 7;
 
 /// The number of a day of the calendar since 1970-01-01, which is 0.

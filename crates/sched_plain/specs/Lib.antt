@@ -16,6 +16,7 @@ pub mod Rows
 pub mod Groups
 pub mod Zones
 pub mod Items
+pub mod Outside
 pub mod Calendar
 pub mod Occurrences
 pub mod Leases

@@ -46,18 +46,21 @@ impl<T> Items<T> {
         items
     }
 
+    /// The elements, in order.
     pub fn as_slice(&self) -> &[T]
         ensures { result.now ≡ self.now }
     {
         self.items.as_slice()
     }
 
+    /// How many elements there are.
     pub fn len(&self) -> usize
         ensures { result ≡ length self.now }
     {
         self.items.len()
     }
 
+    /// Whether there is no element.
     pub fn is_empty(&self) -> bool
         ensures { result ≡ (length self.now == 0) }
     {

@@ -26,6 +26,7 @@ pub struct LetterRow {
     pub name: Name,
 }
 
+/// Letters as a queue's list shows them, in order.
 pub type LetterRows = Items<LetterRow>;
 
 impl TryCopy for Letter {

@@ -40,6 +40,7 @@ pub struct ListRow {
     pub target: Text,
 }
 
+/// The rows of a list of schedules, in order.
 pub type ListRows = Items<ListRow>;
 
 /// A part of the list of schedules.
@@ -57,6 +58,7 @@ pub struct GroupRow {
     pub created: Moment,
 }
 
+/// The rows of a list of groups, in order.
 pub type GroupRows = Items<GroupRow>;
 
 /// A part of the list of groups.

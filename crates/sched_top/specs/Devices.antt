@@ -1,10 +1,7 @@
 -- What the devices that bytes come from and go to tell to a clause. A device in memory tells what it
 -- holds, a real one tells nothing: `None`.
-use Rattle.std.specs.Prelude.{◌≡◌, ℕ, ◌+◌, ◌-◌, ◌^◌, ◌≤◌, min, List, ◌++◌, length, take, Option, Result, option_map, OnOk, OnErr}
-
--- a count of faults that stood at before has risen, or stands at the greatest u64
-abbrev pub Rose : ℕ → ℕ → Type 0
-Rose before now = min (before + 1) (2 ^ 64 - 1) ≤ now
+use Rattle.std.specs.Prelude.{◌≡◌, ℕ, ◌≤◌, List, ◌++◌, length, take, Option, Result, option_map, OnOk, OnErr}
+use Rattle.sched_plain.specs.Outside.{Rose}
 
 -- a call kept the device's count of faults where it succeeded, and raised it where it failed
 pub record HasCause {A E : Type 0} (before now : ℕ) (result : Result A E) : Type 0 where

@@ -2,7 +2,8 @@
 ghost use Rattle.std.specs.Prelude.{◌≡◌, ℕ, ◌+◌, ◌<◌, ◌≤◌, List, ◌++◌, codes, decimal, length, Ok, Err, IfOk, OnOk, IfErr, map};
 ghost use Rattle.sched_plain.specs.History.{History, beginning, count};
 ghost use Rattle.sched_top.specs.Batch.{booted, Answers, Ran, RunFinished, RunStopped, RunWanting, RunUnframed, RunCutOff, unframed_text, MayAnswer, IsAnswered, IsPartAnswered};
-ghost use Rattle.sched_top.specs.Devices.{Gets, GetsPart, Rose};
+ghost use Rattle.sched_top.specs.Devices.{Gets, GetsPart};
+ghost use Rattle.sched_plain.specs.Outside.{Rose};
 
 use crate::framing::{FrameFault, read_request};
 use crate::refusal::{memory_response, refusal};

@@ -2,7 +2,7 @@
 //! byte, the body in blocks.
 ghost use Rattle.std.specs.Prelude.{◌≡◌, ◌≢◌, ◌+◌, ◌^◌, ◌<◌, ◌≤◌, ℕ, List, [], ◌++◌, length, None, Ok, IfOk, IfErr, IfSome};
 ghost use Rattle.httparse.specs.Grammar.{RequestHead};
-ghost use Rattle.sched_top.specs.Devices.{Rose};
+ghost use Rattle.sched_plain.specs.Outside.{Rose};
 ghost use Rattle.sched_top.specs.Framing.{request_of, HoldsOneList, HasNoMessage, TakesRequest, TakesPart, TakesAtMostOne};
 ghost use Rattle.sched_top.specs.Heads.{BeginsWithHead};
 

@@ -1,15 +1,11 @@
 -- What a link tells: the requests that it was handed, in order, each with what came back.
-use Rattle.std.specs.Prelude.{ℕ, ◌+◌, ◌-◌, ◌^◌, ◌≤◌, min, Option, Result, Ok, Err, List, [], ◌∷◌, ◌++◌, take}
+use Rattle.std.specs.Prelude.{ℕ, Option, Result, Ok, Err, List, [], ◌∷◌, ◌++◌, take}
 use Rattle.std.specs.Option.{option_map}
 use Rattle.target_link.specs.declared.address.Address.{Address}
 use Rattle.target_link.specs.declared.link.Lost.{Lost}
 use Rattle.target_link.specs.declared.link.Sent.{Sent}
 use Rattle.target_link.specs.declared.link.Answer.{Answer}
 use Rattle.target_link.specs.declared.link.Answer.TheVariants.{Reply, Loss}
-
--- a count rose, or stands at the greatest u64
-abbrev pub Rose : ℕ → ℕ → Type 0
-Rose before now = min (before + 1) (2 ^ 64 - 1) ≤ now
 
 -- what a call of a link brought back, of what it answered and of the bytes that it left in the reply
 abbrev pub heard : Result ℕ Lost → List ℕ → Answer

@@ -1,6 +1,7 @@
 ghost use Rattle.std.specs.Prelude.{◌≡◌, ℕ, ◌+◌, ◌<◌, ◌≤◌, length, Option, List, IfOk, OnOk, OnErr};
 ghost use Rattle.target_link.specs.declared.link.Sent.{Sent};
-ghost use Rattle.target_link.specs.Told.{Rose, with_sent, heard};
+ghost use Rattle.target_link.specs.Told.{with_sent, heard};
+ghost use Rattle.sched_plain.specs.Outside.{Rose};
 
 use crate::address::Address;
 use sched_plain::{Blob, TryCopy};

@@ -1,6 +1,7 @@
 ghost use Rattle.std.specs.Prelude.{◌≡◌, ℕ, ◌+◌, ◌<◌, ◌≤◌, length, take, [], Some, IfOk, OnOk, OnErr};
 ghost use Rattle.target_link.specs.Script.{cut, next_answer, later_answers};
-ghost use Rattle.target_link.specs.Told.{Rose, with_sent, heard};
+ghost use Rattle.target_link.specs.Told.{with_sent, heard};
+ghost use Rattle.sched_plain.specs.Outside.{Rose};
 
 use crate::address::Address;
 use crate::link::{Answer, Link, Lost, Sent};

@@ -1,6 +1,7 @@
 //! The body of a request, in blocks.
 ghost use Rattle.std.specs.Prelude.{◌≡◌, ◌≢◌, ◌+◌, ◌<◌, ◌≤◌, [], length, IfOk, IfErr, IfSome, OnOk};
-ghost use Rattle.sched_top.specs.Devices.{Gives, Rose};
+ghost use Rattle.sched_top.specs.Devices.{Gives};
+ghost use Rattle.sched_plain.specs.Outside.{Rose};
 ghost use Rattle.sched_top.specs.Heads.{AddsPiece, TakesFewer, TakesUpTo};
 
 use super::FrameFault;

@@ -1,7 +1,8 @@
 //! The head of a request, byte by byte.
 ghost use Rattle.std.specs.Prelude.{◌≡◌, ◌≢◌, ℕ, ◌+◌, ◌^◌, ◌<◌, ◌≤◌, ◌⊎◌, List, [], ◌∷◌, ◌++◌, length, Option, None, Ok, IfOk, IfErr, IfSome, IsErr, OnErr, OnOk, option_to_list};
 ghost use Rattle.httparse.specs.Grammar.{RequestHead};
-ghost use Rattle.sched_top.specs.Devices.{HasCause, Gives, Rose};
+ghost use Rattle.sched_top.specs.Devices.{HasCause, Gives};
+ghost use Rattle.sched_plain.specs.Outside.{Rose};
 ghost use Rattle.sched_top.specs.Heads.{BeginsWithHead, HasNoHead, NeverHasHead, IsHead, HasNoShortHead, TakesNoHead, TakesAtMostHead};
 
 use super::FrameFault;
