@@ -98,7 +98,7 @@ any_living : (rows : List Row) (group name : List ℕ) → is_some (living rows 
 any_living rows group name = found_any (is_at group name) rows rows 1 (λ k. ap (nth rows) (omega arith))
 
 -- all schedules live
-all_live : (all : List Birth) → filter (λ (row : Row). row.lives) (map row_of all) ≡ map row_of all
+pub all_live : (all : List Birth) → filter (λ (row : Row). row.lives) (map row_of all) ≡ map row_of all
 all_live [] = refl
 all_live (b ∷ all) = ap (λ (rows : List Row). row_of b ∷ rows) (all_live all)
 
@@ -181,7 +181,7 @@ fault_steps xs group name token content p =
     ∙ fault_seen (same_text group default_name) (list_any (creates group name) xs) (living_count rows) (length (births h)) many
 
 -- a creation touches nothing
-touched_none : (rows : List Row) (group name : List ℕ) (token : Option (List ℕ)) (content : Schedule) → touched_by rows (writes.CreateSchedule group name token content) ≡ []
+pub touched_none : (rows : List Row) (group name : List ℕ) (token : Option (List ℕ)) (content : Schedule) → touched_by rows (writes.CreateSchedule group name token content) ≡ []
 touched_none rows group name token content =
     filter_none (λ (inc : ℕ). some_pass (λ (row : Row). false) (nth rows inc)) (numbers 1 (length rows)) (λ inc. some_pass_none (nth rows inc))
 
@@ -202,11 +202,11 @@ second_of_three true true d e = refl
 second_of_three true false d e = cc e
 second_of_three false b d e = cc e
 
-utc_first : (a : Bool) (content : Schedule) → (a && is_first_content content) ≡ true → is_utc content.zone ≡ true
+pub utc_first : (a : Bool) (content : Schedule) → (a && is_first_content content) ≡ true → is_utc content.zone ≡ true
 utc_first true content e = second_of_three (is_at_expr content.expr) (is_utc content.zone) (not content.delete_after) e
 utc_first false content e = cc e
 
-no_token : {A : Type 0} (token : Option (List ℕ)) (b : Bool) (kept : List ℕ → Option A) → (is_none token && b) ≡ true → option_and_then kept token ≡ None
+pub no_token : {A : Type 0} (token : Option (List ℕ)) (b : Bool) (kept : List ℕ → Option A) → (is_none token && b) ≡ true → option_and_then kept token ≡ None
 no_token None b kept e = refl
 no_token (Some token) b kept e = cc e
 

@@ -6,7 +6,7 @@ use Rattle.std.specs.Option.{option_map}
 use Rattle.std.proofs.lemmas.List.{take_more}
 use Rattle.std.proofs.lemmas.Bool.Decides.{nat_tests}
 use Rattle.sched_plain.specs.declared.step.Step.{Step}
-use Rattle.sched_plain.specs.History.{History, beginning, ◌upon◌, grown}
+use Rattle.sched_plain.specs.History.{History, beginning, ◌upon◌, count, grown}
 use Rattle.sched_plain.specs.Lists.{nth, some_pass}
 
 -- a history grown by steps and then by one more
@@ -61,3 +61,12 @@ filter_none test (x ∷ xs) h = rw (h x) (filter_none test xs h)
 pub some_pass_none : {A : Type 0} (o : Option A) → some_pass (λ (x : A). false) o ≡ false
 some_pass_none None = refl
 some_pass_none (Some x) = refl
+
+-- a history grown by steps has as many more
+pub count-grown : (h : History) (xs : List Step) → count (grown h xs) ≡ count h + length xs
+count-grown h [] = omega arith
+count-grown h (x ∷ xs) = count-grown (x upon h) xs ∙ omega arith
+
+-- a history of these steps has as many
+pub count-steps : (xs : List Step) → length xs ≡ count (grown beginning xs)
+count-steps xs = let all : count (grown beginning xs) ≡ 0 + length xs = count-grown beginning xs in omega (arith, all)

@@ -88,6 +88,10 @@ impl Machine for Book {
         put_last(&mut self.steps, step);
     }
 
+    fn length(&self) -> u64 {
+        self.steps.as_slice().len() as u64
+    }
+
     fn next_work(&self, shard: u8, now: Moment) -> Work {
         next_work(self.steps.as_slice(), shard, now.0)
     }

@@ -4,7 +4,7 @@ ghost use Rattle.std.specs.Option.{option_map, option_copied};
 ghost use Rattle.sched_plain.specs.Lists.{nth};
 ghost use Rattle.sched_plain.specs.Changes.{changes_of};
 ghost use Rattle.sched_plain.specs.Rows.{rows_of, content_at};
-ghost use Rattle.sched_plain.specs.History.{History, ◌upon◌};
+ghost use Rattle.sched_plain.specs.History.{History, ◌upon◌, count};
 ghost use Rattle.sched_plain.specs.declared.step.Step.{Step};
 ghost use Rattle.sched_plain.specs.Validity.{IsValid};
 ghost use Rattle.sched_plain.specs.Seen.{seen};
@@ -65,6 +65,10 @@ pub trait Machine {
         requires legal { broken self.old step ≡ None }
         requires room { has_room self.old step }
         ensures { (h : History) → stands self.old h → stands self.new (step upon h) };
+
+    /// How many steps the history has.
+    fn length(&self) -> u64
+        ensures { (h : History) → stands self.now h → result ≡ count h };
 
     /// The next work of a shard, of the eight, at a moment.
     fn next_work(&self, shard: u8, now: Moment) -> Work

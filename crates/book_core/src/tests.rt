@@ -92,6 +92,7 @@ fn a_shard_is_taken_swept_and_given_back(rt: HostRuntime) -> Result<(), Fail> {
             until: 0
         }
     );
+    assert_eq!(rt; book.length(), 4);
     assert_eq!(rt; book.entry(1, 1000), None);
     assert!(rt; book.content(1, 1000).is_none());
     assert!(rt; book.named(1).is_none());
