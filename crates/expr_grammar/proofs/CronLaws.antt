@@ -1,5 +1,5 @@
 -- What the six fields give together: the sets that their words spell, or the fault of the two day fields.
-use Rattle.std.proofs.Common.{◌≡◌, ℕ, Bool, true, false, List, [], ◌∷◌, refl, sym, ap, ◌∙◌, subst, cond, Some, None, lit<, lit≤}
+use Rattle.std.proofs.Common.{◌≡◌, ℕ, Bool, true, false, List, [], ◌∷◌, refl, sym, ap, ◌∙◌, subst, cond, None, lit<, lit≤}
 use Rattle.std.specs.Prelude.{codes, ◌&&◌, ◌||◌}
 use Rattle.sched_plain.specs.declared.expression.CronSets.{CronSets}
 use Rattle.sched_plain.specs.declared.expression.DayRule.{DayRule}
@@ -18,17 +18,8 @@ use Rattle.expr_grammar.specs.Items.{IsRead}
 use Rattle.expr_grammar.specs.WordsLeft.{piece_of}
 use Rattle.expr_grammar.specs.Answers.{enclosed}
 use Rattle.expr_grammar.proofs.RateLaws.{texts-placed}
-use Rattle.expr_grammar.proofs.QuestionLaws.{question_is}
+use Rattle.expr_grammar.proofs.QuestionLaws.{question_in_month, question_in_week, question_is}
 use Rattle.expr_grammar.proofs.SetLaws.{kept_set}
-
--- `?` is a row of both day fields
-question_in_month : row cron.day_of_month (codes "?") ≡ Some cron.no_rule
-unfolding row
-question_in_month = refl
-
-question_in_week : row cron.day_of_week (codes "?") ≡ Some cron.no_rule
-unfolding row
-question_in_week = refl
 
 opens_head : (all : List cron.Item) → opens_no_rule (head all) ≡ give_no_rule all
 opens_head [] = refl

@@ -146,7 +146,7 @@ one_part c text none =
     let more : p.more ≡ [] = let e : [] ∷ [] ≡ [] ∷ p.more = ap (cut c) (sym nothing) ∙ p.rest in cc in
     p.all ∙ (rw (whole, more) refl)
 
-same_byte : (c : ℕ) → (c == c) ≡ true
+pub same_byte : (c : ℕ) → (c == c) ≡ true
 same_byte c = eq-eqb c c refl
 
 -- a text goes on behind its first byte at which it is cut

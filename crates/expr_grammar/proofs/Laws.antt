@@ -1,6 +1,6 @@
 -- A text that spells an expression has no fault, and spells no other.
 use Rattle.std.proofs.Common.{◌≡◌, ℕ, ◌+◌, Bool, true, false, List, [], ◌∷◌, length, refl, sym, ap, ◌∙◌, subst, arith, Option, Some, None, Result, Ok, Err}
-use Rattle.std.specs.Prelude.{codes, ◌&&◌, ◌||◌, not, slice_index, if◌then◌else◌, ◌↔◌}
+use Rattle.std.specs.Prelude.{codes, ◌&&◌, ◌||◌, not, slice_index, if◌then◌else◌, ◌↔◌, IfOk}
 use Rattle.sched_plain.specs.declared.expression.Civil.{Civil}
 use Rattle.sched_plain.specs.declared.expression.CronSets.{CronSets}
 use Rattle.sched_plain.specs.declared.expression.DayRule.{DayRule}
@@ -12,7 +12,7 @@ use Rattle.sched_plain.specs.Pieces.{Piece, cut, has_bare_ends, inside, placed, 
 use Rattle.sched_plain.specs.Expressions.{is_civil, at_text}
 use Rattle.sched_plain.specs.CronItems as cron
 use Rattle.sched_plain.specs.CronItems.{is_in_range, row}
-use Rattle.sched_plain.specs.Spelling.{AreRateWords, AreRows, Fields, IsDayRule, SpellFields, SpellsCron, SpellsField, SpellsRate, Spells, give_no_rule, month_rule, sets_of, week_rule}
+use Rattle.sched_plain.specs.Spelling.{AreRateWords, AreRows, Fields, IsDayRule, IsValidExpression, SpellFields, SpellsCron, SpellsField, SpellsRate, Spells, give_no_rule, month_rule, sets_of, week_rule}
 use Rattle.sched_plain.specs.ExpressionFaults.{Fault, at_fault, cron_fault, days_fault, fault, fault_at, fault_of_form, field_fault, item_faults, rate_fault, shape_fault, words_fault}
 use Rattle.expr_grammar.specs.declared.fault.ExprFault.{ExprFault}
 use Rattle.expr_grammar.specs.Answers.{Answers, enclosed, told}
@@ -21,7 +21,7 @@ use Rattle.expr_grammar.specs.WordsLeft.{texts}
 use Rattle.expr_grammar.proofs.AtLaws.{at_inner, at_no_fault, civil_back, real_parts}
 use Rattle.expr_grammar.proofs.FieldLaws.{field_fault_is, mixed, together_is}
 use Rattle.expr_grammar.proofs.InsideLaws.{inside-enclosed}
-use Rattle.expr_grammar.proofs.QuestionLaws.{question_is}
+use Rattle.expr_grammar.proofs.QuestionLaws.{question_in_month, question_in_week, question_is}
 use Rattle.expr_grammar.proofs.RateLaws.{rate_no_fault, rate_words_once, texts-placed}
 
 -- rows have no fault
@@ -59,14 +59,6 @@ rows_once field (p ∷ ps) (i ∷ is) (j ∷ js) one two =
 day_words : (days week : Bool) (place : ℕ) → (days && week) ≡ false → (days || week) ≡ true →
     first_some (when (not (days || week)) (fault_at 5 place) ∷ when (days && week) (fault_at 6 place) ∷ []) ≡ None
 day_words days week place apart some = rw (some, apart) refl
-
-question_in_month : row cron.day_of_month (codes "?") ≡ Some cron.no_rule
-unfolding row
-question_in_month = refl
-
-question_in_week : row cron.day_of_week (codes "?") ≡ Some cron.no_rule
-unfolding row
-question_in_week = refl
 
 days_no_fault : (days week : Piece) (d w : List cron.Item) (rule : DayRule) → SpellsField cron.day_of_month days.text d → SpellsField cron.day_of_week week.text w →
     IsDayRule d w rule → days_fault days week ≡ None
@@ -215,6 +207,11 @@ fault_exactly text (Err g) answers f = (
   λ is. (let same_told : told g ≡ told f = cc in
       let same_fault : g ≡ f = λ t. record { number = (same_told t).number; at = (same_told t).at } in ap (λ x. Err x) same_fault),
 )
+
+-- what is read is valid
+pub read_valid : (text : List ℕ) (answer : Result Expr ExprFault) → Answers answer (fault text) (Spells text) → IfOk answer IsValidExpression
+read_valid text (Ok e) answers = record { text = text; spells = answers.1 }
+read_valid text (Err f) answers = tt
 
 -- an answer by a form is the answer to the text
 pub answers_of_form : (text whole : List ℕ) (found : Option Fault) (answer : Result Expr ExprFault) → text ≡ whole → fault text ≡ found →

@@ -158,3 +158,12 @@ question_is field word all day spelled = by_items all spelled.rows spelled.toget
   by_items (cron.near_weekday n ∷ more) are together = other (cron.near_weekday n) more are (λ e. cc)
   by_items (cron.last_of n ∷ more) are together = other (cron.last_of n) more are (λ e. cc)
   by_items (cron.nth_of n k ∷ more) are together = other (cron.nth_of n k) more are (λ e. cc)
+
+-- `?` is a row of both day fields
+pub question_in_month : row cron.day_of_month (codes "?") ≡ Some cron.no_rule
+unfolding row
+question_in_month = refl
+
+pub question_in_week : row cron.day_of_week (codes "?") ≡ Some cron.no_rule
+unfolding row
+question_in_week = refl

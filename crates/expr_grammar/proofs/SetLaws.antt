@@ -30,7 +30,7 @@ rows_in_range field (p ∷ ps) (i ∷ is) are = (are.0.in_range, rows_in_range f
 pub value_high : (field : cron.Field) (v : ℕ) → is_value field v ≡ true → v ≤ greatest field
 value_high field v is = leb-true _ _ (and_true (nat_le (least field) v) (nat_le v (greatest field)) is).1
 
-false_le : (a b : ℕ) → b < a → nat_le a b ≡ false
+pub false_le : (a b : ℕ) → b < a → nat_le a b ≡ false
 false_le a b less = by_test (nat_le a b) refl where
   by_test : (t : Bool) → nat_le a b ≡ t → nat_le a b ≡ false
   by_test true is = let le : a ≤ b = leb-true a b is in absurd (omega arith)
@@ -54,7 +54,8 @@ contains_past field (cron.near_weekday n) v week in_range past = refl
 contains_past field (cron.last_of n) v week in_range past = refl
 contains_past field (cron.nth_of n k) v week in_range past = refl
 
-any_past : (field : cron.Field) (all : List cron.Item) (v : ℕ) → 7 ≤ greatest field → AllInRange field all → greatest field < v → list_any (contains v) all ≡ false
+-- no value past the greatest is one of items in range
+pub any_past : (field : cron.Field) (all : List cron.Item) (v : ℕ) → 7 ≤ greatest field → AllInRange field all → greatest field < v → list_any (contains v) all ≡ false
 any_past field [] v week in_range past = refl
 any_past field (item ∷ all) v week in_range past =
     rw (contains_past field item v week in_range.0 past) (any_past field all v week in_range.1 past)

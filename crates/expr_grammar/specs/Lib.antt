@@ -4,3 +4,4 @@ pub mod WordsLeft
 pub mod Items
 pub mod Parts
 pub mod Cron
+pub mod ValueSets

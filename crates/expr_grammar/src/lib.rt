@@ -14,13 +14,21 @@ mod field;
 mod form;
 mod item;
 mod items;
+mod print;
+mod print_at;
+mod print_cron;
+mod print_number;
+mod print_rate;
+mod print_set;
 mod rate;
 mod read;
 mod row;
 #[cfg(test)]
 mod tests;
 mod value;
+mod value_set;
 mod words;
 
 pub use fault::ExprFault;
+pub use print::print_expr;
 pub use read::read_expr;

@@ -1,6 +1,6 @@
-ghost use Rattle.std.specs.Prelude.{◌≡◌, ◌↔◌, ℕ, Some, Ok, Err};
+ghost use Rattle.std.specs.Prelude.{◌≡◌, ◌↔◌, ℕ, Some, Ok, Err, IfOk};
 ghost use Rattle.sched_plain.specs.declared.expression.Expr.{Expr};
-ghost use Rattle.sched_plain.specs.Spelling.{Spells};
+ghost use Rattle.sched_plain.specs.Spelling.{IsValidExpression, Spells};
 ghost use Rattle.sched_plain.specs.ExpressionFaults.{fault};
 ghost use Rattle.expr_grammar.specs.declared.fault.ExprFault.{ExprFault};
 ghost use Rattle.expr_grammar.specs.Answers.{Answers, told};
@@ -18,6 +18,8 @@ pub fn read_expr(text: &[u8]) -> Result<Expr, ExprFault>
     // The expression exactly where the text spells it, else exactly the first fault at its place.
     ensures spelled { (e : Expr) → (result ≡ Ok e) ↔ Spells text.now e }
     ensures faulty { (f : ExprFault) → (result ≡ Err f) ↔ (fault text.now ≡ Some (told f)) }
+    // What is read may be printed.
+    ensures valid { IfOk result IsValidExpression }
     // No text spells two expressions.
     ensures once { (a b : Expr) → Spells text.now a → Spells text.now b → a ≡ b }
 {

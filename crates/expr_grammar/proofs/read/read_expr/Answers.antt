@@ -1,4 +1,4 @@
-use Rattle.expr_grammar.proofs.Laws.{fault_exactly, spelled_exactly, spelled_once}
+use Rattle.expr_grammar.proofs.Laws.{fault_exactly, read_valid, spelled_exactly, spelled_once}
 use Rattle.expr_grammar.proofs.read.read_expr.Goals as goal
 
 pub returns-clause-spelled : goal.returns-clause-spelled
@@ -6,6 +6,9 @@ returns-clause-spelled c = spelled_exactly c.args.text.now c.read_form.result c.
 
 pub returns-clause-faulty : goal.returns-clause-faulty
 returns-clause-faulty c = fault_exactly c.args.text.now c.read_form.result c.read_form.ensures
+
+pub returns-clause-valid : goal.returns-clause-valid
+returns-clause-valid c = read_valid c.args.text.now c.read_form.result c.read_form.ensures
 
 pub returns-clause-once : goal.returns-clause-once
 returns-clause-once c = spelled_once c.args.text.now
