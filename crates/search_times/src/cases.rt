@@ -11,8 +11,25 @@ const DAILY: CronSets = CronSets {
     years_high: (1 << 102) - 1,
 };
 
+/// `* * * * ? *`
+const EVERY_MINUTE: CronSets = CronSets {
+    minutes: (1 << 60) - 1,
+    hours: (1 << 24) - 1,
+    ..DAILY
+};
+
+/// `* * * * ? 2023`
+fn ended() -> CronSets {
+    CronSets {
+        years_low: 1 << 53,
+        years_high: 0,
+        ..EVERY_MINUTE
+    }
+}
+
 /// The sets with that name, if there is such a case: ordinary ones (`daily`, `weekly`, `last-day`),
-/// sparse ones, and hopeless ones, which no minute to the end of 2199 fits.
+/// dense ones (`every-minute`, and `ended` in 2023 alone), sparse ones, and hopeless ones, which no
+/// minute to the end of 2199 fits.
 pub fn sets_of(case: &str) -> Option<CronSets> {
     let days = match case {
         "daily" => DAILY.days,
@@ -21,6 +38,8 @@ pub fn sets_of(case: &str) -> Option<CronSets> {
         "weekday-near-31" => DayRule::NearWeekday(31),
         "fifth-monday" => DayRule::Nth { day: 2, nth: 5 },
         "leap-day" | "february-30" | "last-leap-day" => return Some(in_february(case)),
+        "every-minute" => return Some(EVERY_MINUTE),
+        "ended" => return Some(ended()),
         "sixth-monday" => DayRule::Nth { day: 2, nth: 6 },
         "last-ninth" => DayRule::LastOf(9),
         "weekday-near-0" => DayRule::NearWeekday(0),

@@ -1,0 +1,13 @@
+pub mod ZoneText
+pub mod Sides
+pub mod Conversion
+pub mod Agreement
+pub mod ZoneBytes
+pub mod FileFault
+pub mod Kind
+pub mod Files
+pub mod Instants
+pub mod FirstInstants
+pub mod InstantFacts
+pub mod Window
+pub mod Calendar

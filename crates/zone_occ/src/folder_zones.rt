@@ -1,0 +1,104 @@
+ghost use Rattle.std.specs.Prelude.{◌≡◌, ◌≤◌, None, IfOk, vec_len};
+ghost use Rattle.zone_occ.specs.Files.{longest_answer, IsShort};
+
+use crate::zone_files::{ZoneAnswer, ZoneCallFault, ZoneFiles};
+use sched_plain::{Blob, LONGEST_ZONE, ZoneName};
+use std::fs;
+use std::io::{self, ErrorKind, Read};
+use std::marker::Model;
+use std::rt::Files;
+
+/// The files of a folder, each a zone with its path below the folder as its name. A name that is not
+/// found, that goes through a file or that is a folder is absent; every other refusal of the machine
+/// is a failed call. It tells nothing of what the files hold.
+#[derive(Drop)]
+pub struct FolderZones<R> {
+    rt: R,
+    folder: String,
+    faults: u64,
+}
+
+impl<R> Model for FolderZones<R> {
+    ghost use Rattle.std.specs.Prelude.{ℕ};
+
+    ghost Value = { ℕ };
+
+    ghost view = { λ zones. zones.faults };
+}
+
+impl<R: Files + AllocGlobal> FolderZones<R> {
+    /// The zones of this folder, which is not looked at before a name is read.
+    pub fn new(rt: R, folder: String) -> FolderZones<R>
+        ensures { result ≡ 0 }
+    {
+        FolderZones {
+            rt,
+            folder,
+            faults: 0,
+        }
+    }
+
+    /// How many calls failed.
+    pub fn faults(&self) -> u64
+        ensures { result ≡ self.now }
+    {
+        self.faults
+    }
+}
+
+/// The first 65,537 bytes of a file, or all where there are fewer.
+fn read_front<R: Files + AllocGlobal>(rt: &R, path: &str) -> io::Result<Vec<u8>>
+    ensures { IfOk result (λ bytes. vec_len bytes ≤ longest_answer) }
+{
+    let most = LONGEST_ZONE + 1;
+    let mut bytes = Vec::new(rt.alloc());
+    fs::open(rt, path)?
+        .take(most as u64)
+        .read_to_end(&mut bytes)?;
+    bytes.truncate(most);
+    Ok(bytes)
+}
+
+/// The answer that a refusal of the machine is.
+fn refusal(kind: ErrorKind) -> Result<ZoneAnswer, ZoneCallFault>
+    ensures { IfOk result IsShort }
+{
+    match kind {
+        ErrorKind::NotFound | ErrorKind::NotADirectory | ErrorKind::IsADirectory => Ok(
+            ZoneAnswer::Absent,
+        ),
+        ErrorKind::OutOfMemory => Err(ZoneCallFault::OutOfMemory),
+        _ => Err(ZoneCallFault::Failed),
+    }
+}
+
+/// Looks for a name below the folder.
+fn look_up<R: Files + AllocGlobal>(
+    rt: &R,
+    folder: &str,
+    name: &ZoneName,
+) -> Result<ZoneAnswer, ZoneCallFault>
+    ensures { IfOk result IsShort }
+{
+    let Ok(path) = format!(in rt.alloc(); "{folder}/{}", name.as_str()) else {
+        return Err(ZoneCallFault::OutOfMemory);
+    };
+    match read_front(rt, path.as_str()) {
+        Ok(bytes) => Ok(ZoneAnswer::Present(Blob::from_vec(bytes))),
+        Err(error) => refusal(error.kind()),
+    }
+}
+
+impl<R: Files + AllocGlobal> ZoneFiles for FolderZones<R> {
+    ghost told = { λ _. None };
+
+    ghost faults = { λ zones. zones };
+
+    fn read(&mut self, name: &ZoneName) -> Result<ZoneAnswer, ZoneCallFault> {
+        let answer = look_up(&self.rt, self.folder.as_str(), name);
+        if let Err(ZoneCallFault::Failed) = &answer {
+            self.faults = self.faults.saturating_add(1);
+        }
+        answer
+    }
+}

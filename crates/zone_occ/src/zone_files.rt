@@ -1,0 +1,67 @@
+//! Where the bytes of zones come from.
+ghost use Rattle.std.specs.Prelude.{◌≡◌, ℕ, ◌≤◌, Option, List, IfOk};
+ghost use Rattle.zone_occ.specs.declared.zone_files.NamedZone.{NamedZone};
+ghost use Rattle.zone_occ.specs.Files.{IsTold, IsShort, IsCounted};
+
+use sched_plain::{Blob, TryCopy, ZoneName};
+use std::alloc::AllocError;
+
+/// The bytes of a zone, with its name.
+#[derive(Debug, Drop)]
+pub struct NamedZone {
+    pub name: ZoneName,
+    pub bytes: Blob,
+}
+
+/// What there is of a name.
+#[derive(Debug, Drop)]
+pub enum ZoneAnswer {
+    /// These bytes, which need not be a zone; of more than 65,537 the first 65,537.
+    Present(Blob),
+    /// Nothing.
+    Absent,
+}
+
+/// Why a call for a name has no answer.
+#[derive(Debug, Clone, Copy, PartialEq, Eq)]
+pub enum ZoneCallFault {
+    /// The source failed, and counted it.
+    Failed,
+    /// Memory was wanted.
+    OutOfMemory,
+}
+
+impl TryCopy for NamedZone {
+    fn copy(&self) -> Result<NamedZone, AllocError> {
+        Ok(NamedZone {
+            name: self.name.copy()?,
+            bytes: self.bytes.copy()?,
+        })
+    }
+}
+
+impl TryCopy for ZoneAnswer {
+    fn copy(&self) -> Result<ZoneAnswer, AllocError> {
+        match self {
+            ZoneAnswer::Present(bytes) => Ok(ZoneAnswer::Present(bytes.copy()?)),
+            ZoneAnswer::Absent => Ok(ZoneAnswer::Absent),
+        }
+    }
+}
+
+/// A source of the bytes of zones, by name.
+pub trait ZoneFiles {
+    /// The zones that there are, of which the first of a name counts; `None` of a source that does
+    /// not tell.
+    ghost told: { Self → Option (List NamedZone) };
+    /// How many calls failed. A count that has come to the greatest u64 stays there.
+    ghost faults: { Self → ℕ };
+
+    /// The bytes of this name, at most the first 65,537.
+    fn read(&mut self, name: &ZoneName) -> Result<ZoneAnswer, ZoneCallFault>
+        ensures answer { IfOk result (IsTold (told self.old) name.now) }
+        ensures short { IfOk result IsShort }
+        ensures told { told self.new ≡ told self.old }
+        ensures later { faults self.old ≤ faults self.new }
+        ensures count { IsCounted result (faults self.old) (faults self.new) };
+}
