@@ -1,6 +1,3 @@
-pub mod ByteLemmas
-pub mod DeviceLemmas
-pub mod HeadLemmas
-pub mod HeaderLemmas
-pub mod FrameLemmas
+pub mod CreationLemmas
+pub mod ServingLemmas
 pub mod BatchLemmas

@@ -1,32 +1,33 @@
 -- One batch run: a history before it, a Boot upon that, and then each request of the input, served over the
 -- history that the one before it left.
-use Rattle.std.specs.Prelude.{◌≡◌, ℕ, ◌+◌, ◌⊎◌, ◌==◌, ◌||◌, Bool, List, [], ◌∷◌, ◌++◌, length, Option, IfSome, codes, decimal}
-use Rattle.std.specs.List.{flat_map}
-use Rattle.sched_plain.specs.declared.step.Step.TheVariants.{Boot}
-use Rattle.sched_plain.specs.History.{History, ◌upon◌, count}
+use Rattle.std.specs.Prelude.{◌≡◌, ℕ, ◌+◌, ◌⊎◌, ◌<◌, ◌≤◌, ◌==◌, ◌||◌, Bool, List, [], ◌∷◌, ◌++◌, length, Option, option_map, IfSome, codes, decimal}
+use Rattle.std.specs.List.{flat_map, AllPairs}
+use Rattle.sched_plain.specs.declared.moment.Moment.{Moment}
+use Rattle.sched_plain.specs.declared.step.Step.TheVariants.{Boot, Swept}
+use Rattle.sched_plain.specs.History.{History, ◌upon◌, Extends, count}
+use Rattle.sched_plain.specs.Ids.{shard_of}
 use Rattle.sched_plain.specs.Moments.{moment, moment_of}
-use Rattle.sched_top.specs.declared.request.HttpRequest.{HttpRequest}
-use Rattle.sched_top.specs.Devices.{Gives, Gets, GetsPart}
-use Rattle.sched_top.specs.Framing.{Message, message_bytes, IsFramed, request_of, HasNoMessage, TakesPart, TakesAtMostOne}
-use Rattle.sched_top.specs.Response.{refusal_text, memory_text}
+use Rattle.sched_plain.specs.Validity.{AllValid}
+use Rattle.sched_plain.specs.Legal.{IsLegal}
+use Rattle.sched_plain.specs.Ledger.{ledger_of}
+use Rattle.sched_plain.specs.Entries.{entries, filed, instants_of}
+use Rattle.sched_plain.specs.Lists.{numbers}
+use Rattle.sched_plain.specs.Attempts.{used}
+use Rattle.sched_plain.specs.Marks.{mark}
+use Rattle.book_laws.specs.EntryLaws.{occ_upto}
+use Rattle.book_laws.specs.AttemptLaws.{numbers_of, allowed}
+use Rattle.book_laws.specs.SweepLaws.{NothingLeft}
+use Rattle.book_core.specs.InUse.{calendar}
+use Rattle.target_link.specs.declared.link.Sent.{Sent}
+use Rattle.http_wire.specs.Devices.{Gives, Gets, GetsPart}
+use Rattle.http_wire.specs.Framing.{Message, message_bytes, IsFramed, request_of, HasNoMessage, TakesPart, TakesAtMostOne}
+use Rattle.http_wire.specs.Response.{refusal_text}
+use Rattle.timer_work.specs.Sendings.{Reported}
+use Rattle.sched_top.specs.Serving.{Answers}
 
 -- the history once the service is started upon it: a Boot at its last moment, 0 for the first
 abbrev pub booted : History → History
 booted h = Boot (moment_of (moment h)) upon h
-
--- a request is refused: the history stays, and the answer names the rule and counts the steps
-pub record IsRefused (before : History) (request : HttpRequest) (after : History) (response : List ℕ) : Type 0 where
-  pub same : after ≡ before
-  pub text : response ≡ refusal_text 400 20 (codes "not yet") (count after)
-
--- a request is cut by want of memory: the history stays, and the answer does not count
-pub record IsCut (before : History) (request : HttpRequest) (after : History) (response : List ℕ) : Type 0 where
-  pub same : after ≡ before
-  pub text : response ≡ memory_text
-
--- one request served over a history: the history at its answer, and the response
-abbrev pub Answers : History → HttpRequest → History → List ℕ → Type 0
-Answers before request after response = IsRefused before request after response ⊎ IsCut before request after response
 
 -- a message and the response to it
 pub record Exchange : Type 0 where
@@ -41,87 +42,142 @@ bytes_read exchanges = flat_map (λ x. message_bytes x.message) exchanges
 abbrev pub bytes_sent : List Exchange → List ℕ
 bytes_sent exchanges = flat_map (λ x. x.response) exchanges
 
--- framed messages in their order, each served over the history that the one before it left
-abbrev pub Served : History → List Exchange → History → Type 0
-Served before [] after = after ≡ before
-Served before (x ∷ more) after =
-    (middle : History) × IsFramed x.message × Answers before (request_of x.message) middle x.response × Served middle more after
+-- framed messages in their order, each answered over the history and the moment that the one before it left
+abbrev pub Served : History → ℕ → List Exchange → History → ℕ → Type 0
+Served before now [] after at = (after ≡ before) × (at ≡ now)
+Served before now (x ∷ more) after at =
+    (middle : History) × (told : ℕ) × IsFramed x.message
+    × Answers before now (request_of x.message) middle told x.response × Served middle told more after at
 
 -- the history after a batch run is the one before it, then a Boot, then what the requests added
-abbrev pub Batch : History → List Exchange → History → Type 0
-Batch before exchanges after = Served (booted before) exchanges after
+abbrev pub Batch : History → List Exchange → History → ℕ → Type 0
+Batch before exchanges after at = Served (booted before) (moment before) exchanges after at
+
+-- what holds of the entries of an incarnation: there is one for each of its occurrences up to its mark and for
+-- nothing else, and the attempts of each count from 1 and are no more than its retries allow
+pub record IsKept (h : History) (inc : ℕ) : Type 0 where
+  pub exact : instants_of (entries (ledger_of h) inc) ≡ occ_upto calendar h inc (mark h inc)
+  pub once : AllPairs (λ earlier later. earlier < later) (instants_of (entries (ledger_of h) inc))
+  pub numbered : (instant : ℕ) → numbers_of h inc instant ≡ numbers 1 (used (ledger_of h) inc instant)
+  pub limited : (instant : ℕ) → used (ledger_of h) inc instant ≤ allowed (filed (ledger_of h) inc instant)
+
+-- each Swept of the history left nothing to do at its moment in its shard: no occurrence without an entry, and no entry
+-- that is due, exhausted or live
+abbrev pub IsSettled : History → Type 0
+IsSettled h =
+    (earlier : History) (at : Moment) (shard inc : ℕ) → Extends (Swept at shard upon earlier) h → shard ≡ shard_of inc
+    → NothingLeft calendar (Swept at shard upon earlier) inc at.0
+
+-- the link was handed the requests of the history's attempts, behind what it had told before
+pub record IsHanded (h : History) (told told' : Option (List Sent)) : Type 0 where
+  pub sent : List Sent
+  pub more : told' ≡ option_map (λ earlier. earlier ++ sent) told
+  pub reported : Reported h sent
+
+-- what a run keeps: its history is the one before it, a Boot and further steps, and legal; each occurrence up to
+-- its schedule's mark has one entry and no other is there; what was swept is settled; and the link was handed the
+-- attempts of the history
+pub record Keeps (before h : History) (told told' : Option (List Sent)) : Type 0 where
+  pub grows : Extends (booted before) h
+  pub legal : IsLegal calendar h
+  pub valid : AllValid h
+  pub kept : (inc : ℕ) → IsKept h inc
+  pub settled : IsSettled h
+  pub handed : IsHanded h told told'
 
 -- what a batch run did up to an answer: so many requests were read, served and answered, and nothing else was
 -- taken from the source (which told `left` before and tells `left'` now) or given to the sink (`got` and `got'`)
-pub record Ran (number : ℕ) (before after : History) (left left' got got' : Option (List ℕ)) : Type 0 where
+pub record Ran (number : ℕ) (before after : History) (at : ℕ) (left left' got got' : Option (List ℕ)) : Type 0 where
   pub exchanges : List Exchange
   pub many : length exchanges ≡ number
-  pub batch : Batch before exchanges after
+  pub batch : Batch before exchanges after at
   pub read : Gives left (bytes_read exchanges) left'
   pub sent : Gets got (bytes_sent exchanges) got'
 
+-- what a source told before and now, a sink, and a link
+pub record Told : Type 0 where
+  pub left : Option (List ℕ)
+  pub got : Option (List ℕ)
+  pub handed : Option (List Sent)
+
 -- the run came to the end of its input, and every request was answered
-pub record RunFinished (before : History) (left left' got got' : Option (List ℕ)) : Type 0 where
+pub record RunFinished (before : History) (old new : Told) : Type 0 where
   pub number : ℕ
   pub after : History
-  pub ran : Ran number before after left left' got got'
-  pub ends : IfSome left' (λ bytes. bytes ≡ [])
+  pub at : ℕ
+  pub ran : Ran number before after at old.left new.left old.got new.got
+  pub keeps : Keeps before after old.handed new.handed
+  pub ends : IfSome new.left (λ bytes. bytes ≡ [])
 
 -- the run stopped behind its last answer: what was taken since is no whole request, and nothing more was given
-pub record RunStopped (before : History) (left left' got got' : Option (List ℕ)) : Type 0 where
+pub record RunStopped (before : History) (old new : Told) : Type 0 where
   pub number : ℕ
   pub after : History
+  pub at : ℕ
   pub behind : Option (List ℕ)
-  pub ran : Ran number before after left behind got got'
-  pub taken : TakesPart behind left'
+  pub ran : Ran number before after at old.left behind old.got new.got
+  pub keeps : Keeps before after old.handed new.handed
+  pub taken : TakesPart behind new.left
 
 -- memory was wanted behind the last answer: nothing past the next request was taken, and nothing more was given
-pub record RunWanting (before : History) (left left' got got' : Option (List ℕ)) : Type 0 where
+pub record RunWanting (before : History) (old new : Told) : Type 0 where
   pub number : ℕ
   pub after : History
+  pub at : ℕ
   pub behind : Option (List ℕ)
-  pub ran : Ran number before after left behind got got'
-  pub taken : TakesAtMostOne behind left'
+  pub ran : Ran number before after at old.left behind old.got new.got
+  pub keeps : Keeps before after old.handed new.handed
+  pub taken : TakesAtMostOne behind new.left
+
+-- the same, or memory was wanted before the Boot: nothing was read, given or sent
+abbrev pub RunShort : History → Told → Told → Type 0
+RunShort before old new = (new ≡ old) ⊎ RunWanting before old new
 
 -- the answer to what is no request, over a history with so many steps: which one it is, counted from 1
 abbrev pub unframed_text : ℕ → ℕ → List ℕ
 unframed_text number steps = refusal_text 400 1 (codes "request " ++ decimal number) steps
 
 -- what stands behind the last request is none; it was answered so, and nothing more was taken or given
-pub record RunUnframed (before : History) (left left' got got' : Option (List ℕ)) : Type 0 where
+pub record RunUnframed (before : History) (old new : Told) : Type 0 where
   pub number : ℕ
   pub after : History
+  pub at : ℕ
   pub behind : Option (List ℕ)
   pub sent : Option (List ℕ)
-  pub ran : Ran number before after left behind got sent
+  pub ran : Ran number before after at old.left behind old.got sent
+  pub keeps : Keeps before after old.handed new.handed
   pub none : IfSome behind HasNoMessage
-  pub taken : TakesPart behind left'
-  pub answered : Gets sent (unframed_text (number + 1) (count after)) got'
+  pub taken : TakesPart behind new.left
+  pub answered : Gets sent (unframed_text (number + 1) (count after)) new.got
 
--- the next request was read, not one byte more, and this is its response
-pub record AnswersNext (after : History) (behind left' : Option (List ℕ)) (response : List ℕ) : Type 0 where
+-- the next request was read, not one byte more, and this is its response; the history is the one at that answer
+pub record AnswersNext (after : History) (at : ℕ) (behind left : Option (List ℕ)) (response : List ℕ) (last : History) : Type 0 where
   pub message : Message
   pub framed : IsFramed message
-  pub taken : Gives behind (message_bytes message) left'
-  pub answer : History
-  pub served : Answers after (request_of message) answer response
+  pub taken : Gives behind (message_bytes message) left
+  pub told : ℕ
+  pub served : Answers after at (request_of message) last told response
 
--- or none stands there, and this is the answer
-pub record AnswersNone (number : ℕ) (after : History) (behind left' : Option (List ℕ)) (response : List ℕ) : Type 0 where
+-- or none stands there, and this is the answer; the history is as it was
+pub record AnswersNone (number : ℕ) (after : History) (behind left : Option (List ℕ)) (response : List ℕ) (last : History) : Type 0 where
   pub none : IfSome behind HasNoMessage
-  pub taken : TakesPart behind left'
+  pub taken : TakesPart behind left
   pub text : response ≡ unframed_text (number + 1) (count after)
+  pub same : last ≡ after
 
 -- the sink failed while an answer was given: a front of it was taken
-pub record RunCutOff (before : History) (left left' got got' : Option (List ℕ)) : Type 0 where
+pub record RunCutOff (before : History) (old new : Told) : Type 0 where
   pub number : ℕ
   pub after : History
+  pub at : ℕ
   pub behind : Option (List ℕ)
   pub sent : Option (List ℕ)
-  pub ran : Ran number before after left behind got sent
+  pub ran : Ran number before after at old.left behind old.got sent
   pub response : List ℕ
-  pub due : AnswersNext after behind left' response ⊎ AnswersNone number after behind left' response
-  pub part : GetsPart sent response got'
+  pub last : History
+  pub due : AnswersNext after at behind new.left response last ⊎ AnswersNone number after behind new.left response last
+  pub keeps : Keeps before last old.handed new.handed
+  pub part : GetsPart sent response new.got
 
 -- the words of a batch run: `batch` alone
 abbrev pub IsBatch : List (List ℕ) → Type 0
@@ -134,19 +190,3 @@ is_end_status status = status == 0 || status == 3 || status == 4 || status == 7 
 -- the exit statuses of the top call
 abbrev pub is_exit_status : ℕ → Bool
 is_exit_status status = is_end_status status || status == 2
-
--- a response that a request may get over any history with so many steps, which stays as it is
-abbrev pub MayAnswer : ℕ → HttpRequest → List ℕ → Type 0
-MayAnswer steps request response = (h : History) → count h ≡ steps → Answers h request h response
-
--- a request was answered so
-pub record IsAnswered (steps : ℕ) (request : HttpRequest) (got got' : Option (List ℕ)) : Type 0 where
-  pub response : List ℕ
-  pub due : MayAnswer steps request response
-  pub given : Gets got response got'
-
--- a front of such an answer was given
-pub record IsPartAnswered (steps : ℕ) (request : HttpRequest) (got got' : Option (List ℕ)) : Type 0 where
-  pub response : List ℕ
-  pub due : MayAnswer steps request response
-  pub given : GetsPart got response got'

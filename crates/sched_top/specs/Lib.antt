@@ -1,6 +1,3 @@
-pub mod Devices
-pub mod Memory
-pub mod Framing
-pub mod Heads
-pub mod Response
+pub mod Serving
 pub mod Batch
+pub mod Turns

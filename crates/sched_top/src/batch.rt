@@ -1,19 +1,21 @@
 //! The batch run: requests are read one behind the other, and each is answered before the next is read.
-ghost use Rattle.std.specs.Prelude.{◌≡◌, ℕ, ◌+◌, ◌<◌, ◌≤◌, List, ◌++◌, codes, decimal, length, Ok, Err, IfOk, OnOk, IfErr, map};
-ghost use Rattle.sched_plain.specs.History.{History, beginning, count};
-ghost use Rattle.sched_top.specs.Batch.{booted, Answers, Ran, RunFinished, RunStopped, RunWanting, RunUnframed, RunCutOff, unframed_text, MayAnswer, IsAnswered, IsPartAnswered};
-ghost use Rattle.sched_top.specs.Devices.{Gets, GetsPart};
+ghost use Rattle.std.specs.Prelude.{◌≡◌, ◌≤◌, Err, OnOk, OnErr, IfOk};
+ghost use Rattle.sched_plain.specs.History.{History, beginning};
+ghost use Rattle.sched_plain.specs.Moments.{last_moment};
+ghost use Rattle.sched_top.specs.Batch.{booted, RunFinished, RunStopped, RunWanting, RunUnframed, RunCutOff, RunShort, unframed_text};
+ghost use Rattle.http_wire.specs.Devices.{Gets, GetsPart};
+ghost use Rattle.sched_top.specs.Turns.{IsReady, Turn, IsGiven, IsPartGiven};
 ghost use Rattle.sched_plain.specs.Outside.{Rose};
 
-use crate::framing::{FrameFault, read_request};
-use crate::refusal::{memory_response, refusal};
-use crate::request::HttpRequest;
-use crate::sink::{Sink, send_all};
-use crate::source::Source;
+use crate::service::respond;
+use book_core::Machine;
+use http_wire::{
+    FrameFault, HttpRequest, Sink, SinkFailed, Source, memory_response, read_request, send_all,
+    write_refusal,
+};
+use sched_plain::{Moment, Step};
 use std::alloc::{AllocError, Global};
-
-/// The steps of the history of a run: until requests add to it, it is the Boot alone.
-const BOOT_STEPS: u64 = 1;
+use target_link::Link;
 
 /// How a batch run ends.
 #[derive(Clone, Copy, Debug, PartialEq, Eq)]
@@ -24,50 +26,42 @@ pub(crate) enum BatchEnd {
     SourceFailed,
     /// A call of the sink failed.
     SinkFailed,
-    /// Memory was wanted outside a request, or for the answer that says so.
+    /// Memory was wanted outside a request.
     OutOfMemory,
     /// A request could not be framed, and that was answered.
     Unframed,
 }
 
-/// Why an answer was not given.
+/// Why what is no request was not answered.
 #[derive(Clone, Copy, Debug, PartialEq, Eq)]
 enum AnswerFault {
     SinkFailed,
     OutOfMemory,
 }
 
-/// The response of a framed request.
-fn response_of(alloc: Global, request: &HttpRequest, steps: u64) -> Result<Vec<u8>, AllocError>
-    ensures { IfOk result (λ text. MayAnswer steps request.now text.items) }
-{
-    match refusal(alloc, 400, 20, b"not yet", steps) {
-        Ok(text) => Ok(text),
-        Err(_) => memory_response(alloc),
-    }
-}
-
 /// Answers a framed request.
-fn answer<K: Sink>(
+fn answer<M: Machine, K: Sink, L: Link>(
     alloc: Global,
+    machine: &mut M,
+    now: &mut Moment,
     request: &HttpRequest,
-    steps: u64,
     sink: &mut K,
-) -> Result<(), AnswerFault>
-    ensures answered { OnOk result (IsAnswered steps request.now (K.got sink.old) (K.got sink.new)) }
-    ensures cut { result ≡ Err AnswerFault.SinkFailed
-        → IsPartAnswered steps request.now (K.got sink.old) (K.got sink.new) }
-    ensures silent { result ≡ Err AnswerFault.OutOfMemory → K.got sink.new ≡ K.got sink.old }
-    ensures failed { result ≡ Err AnswerFault.SinkFailed
-        → Rose (K.faults sink.old) (K.faults sink.new) }
+    link: &mut L,
+) -> Result<(), SinkFailed>
+    requires now { now.old.0 ≤ last_moment }
+    ensures answered { OnOk result ((h : History) → M.stands machine.old h → IsReady h now.old.0
+        → Turn (M.stands machine.new) h now.new.0 (L.told link.old) (L.told link.new)
+        (IsGiven h now.old.0 request.now now.new.0 (K.got sink.old) (K.got sink.new))) }
+    ensures cut { OnErr result ((h : History) → M.stands machine.old h → IsReady h now.old.0
+        → Turn (M.stands machine.new) h now.new.0 (L.told link.old) (L.told link.new)
+        (IsPartGiven h now.old.0 request.now now.new.0 (K.got sink.old) (K.got sink.new))) }
+    ensures failed { OnErr result (Rose (K.faults sink.old) (K.faults sink.new)) }
     ensures later { K.faults sink.old ≤ K.faults sink.new }
+    ensures late { now.new.0 ≤ last_moment }
 {
-    let Ok(text) = response_of(alloc, request, steps) else {
-        return Err(AnswerFault::OutOfMemory);
-    };
-    match send_all(sink, &text) {
-        Ok(()) => Ok(()),
-        Err(_) => Err(AnswerFault::SinkFailed),
+    match respond(alloc, machine, now, request, link) {
+        Ok(text) => send_all(sink, &text),
+        Err(_) => send_all(sink, memory_response()),
     }
 }
 
@@ -78,7 +72,7 @@ fn unframed_response(alloc: Global, number: u64, steps: u64) -> Result<Vec<u8>, 
     let mut subject = Vec::new(alloc);
     subject.extend_from_slice(b"request ")?;
     subject.extend_from_slice(number.to_string(alloc)?.as_bytes())?;
-    let text = refusal(alloc, 400, 1, &subject, steps)?;
+    let text = write_refusal(alloc, 400, 1, &subject, steps)?;
     Ok(text)
 }
 
@@ -106,34 +100,59 @@ fn answer_unframed<K: Sink>(
     }
 }
 
-/// Reads requests to the end of the source and answers each before the next is read.
-pub(crate) fn run_batch<S: Source, K: Sink>(alloc: Global, source: &mut S, sink: &mut K) -> BatchEnd
-    ensures finished { result ≡ BatchEnd.Finished
-        → RunFinished beginning (S.left source.old) (S.left source.new) (K.got sink.old) (K.got sink.new) }
-    ensures source_failed { result ≡ BatchEnd.SourceFailed
-        → RunStopped beginning (S.left source.old) (S.left source.new) (K.got sink.old) (K.got sink.new) }
-    ensures sink_failed { result ≡ BatchEnd.SinkFailed
-        → RunCutOff beginning (S.left source.old) (S.left source.new) (K.got sink.old) (K.got sink.new) }
-    ensures memory { result ≡ BatchEnd.OutOfMemory
-        → RunWanting beginning (S.left source.old) (S.left source.new) (K.got sink.old) (K.got sink.new) }
-    ensures unframed { result ≡ BatchEnd.Unframed
-        → RunUnframed beginning (S.left source.old) (S.left source.new) (K.got sink.old) (K.got sink.new) }
+/// Starts the service upon an empty history.
+fn start<M: Machine>(machine: &mut M) -> Result<(), AllocError>
+    ensures { OnOk result (M.stands machine.old beginning → M.stands machine.new (booted beginning)) }
+{
+    let boot = Step::Boot { at: Moment(0) };
+    if machine.legal(&boot).is_err() {
+        return Err(AllocError);
+    }
+    machine.reserve(&boot)?;
+    machine.apply(boot);
+    Ok(())
+}
+
+/// Reads requests to the end of the source, and answers each before the next is read.
+fn run_requests<M: Machine, S: Source, K: Sink, L: Link>(
+    alloc: Global,
+    machine: &mut M,
+    source: &mut S,
+    sink: &mut K,
+    link: &mut L,
+) -> BatchEnd
+    requires { M.stands machine.old (booted beginning) }
+    ensures finished { result ≡ BatchEnd.Finished → RunFinished beginning
+        (record { left = S.left source.old; got = K.got sink.old; handed = L.told link.old })
+        (record { left = S.left source.new; got = K.got sink.new; handed = L.told link.new }) }
+    ensures source_failed { result ≡ BatchEnd.SourceFailed → RunStopped beginning
+        (record { left = S.left source.old; got = K.got sink.old; handed = L.told link.old })
+        (record { left = S.left source.new; got = K.got sink.new; handed = L.told link.new }) }
     ensures source_rose { result ≡ BatchEnd.SourceFailed
         → Rose (S.faults source.old) (S.faults source.new) }
+    ensures sink_failed { result ≡ BatchEnd.SinkFailed → RunCutOff beginning
+        (record { left = S.left source.old; got = K.got sink.old; handed = L.told link.old })
+        (record { left = S.left source.new; got = K.got sink.new; handed = L.told link.new }) }
     ensures sink_rose { result ≡ BatchEnd.SinkFailed
         → Rose (K.faults sink.old) (K.faults sink.new) }
+    ensures unframed { result ≡ BatchEnd.Unframed → RunUnframed beginning
+        (record { left = S.left source.old; got = K.got sink.old; handed = L.told link.old })
+        (record { left = S.left source.new; got = K.got sink.new; handed = L.told link.new }) }
+    ensures memory { result ≡ BatchEnd.OutOfMemory → RunWanting beginning
+        (record { left = S.left source.old; got = K.got sink.old; handed = L.told link.old })
+        (record { left = S.left source.new; got = K.got sink.new; handed = L.told link.new }) }
 {
     let mut number = 0;
+    let mut now = Moment(0);
     'requests: loop {
         match read_request(alloc, source) {
             Ok(None) => return BatchEnd::Finished,
-            Ok(Some(request)) => match answer(alloc, &request, BOOT_STEPS, sink) {
+            Ok(Some(request)) => match answer(alloc, machine, &mut now, &request, sink, link) {
                 Ok(()) => number += 1,
-                Err(AnswerFault::SinkFailed) => return BatchEnd::SinkFailed,
-                Err(AnswerFault::OutOfMemory) => return BatchEnd::OutOfMemory,
+                Err(_) => return BatchEnd::SinkFailed,
             },
             Err(FrameFault::Unframed) => {
-                return match answer_unframed(alloc, number + 1, BOOT_STEPS, sink) {
+                return match answer_unframed(alloc, number + 1, machine.length(), sink) {
                     Ok(()) => BatchEnd::Unframed,
                     Err(AnswerFault::SinkFailed) => BatchEnd::SinkFailed,
                     Err(AnswerFault::OutOfMemory) => BatchEnd::OutOfMemory,
@@ -142,5 +161,40 @@ pub(crate) fn run_batch<S: Source, K: Sink>(alloc: Global, source: &mut S, sink:
             Err(FrameFault::SourceFailed) => return BatchEnd::SourceFailed,
             Err(FrameFault::OutOfMemory) => return BatchEnd::OutOfMemory,
         }
+    }
+}
+
+/// Starts the service, then reads requests to the end of the source, and answers each before the next is read.
+pub(crate) fn run_batch<M: Machine, S: Source, K: Sink, L: Link>(
+    alloc: Global,
+    machine: &mut M,
+    source: &mut S,
+    sink: &mut K,
+    link: &mut L,
+) -> BatchEnd
+    requires { M.stands machine.old beginning }
+    ensures finished { result ≡ BatchEnd.Finished → RunFinished beginning
+        (record { left = S.left source.old; got = K.got sink.old; handed = L.told link.old })
+        (record { left = S.left source.new; got = K.got sink.new; handed = L.told link.new }) }
+    ensures source_failed { result ≡ BatchEnd.SourceFailed → RunStopped beginning
+        (record { left = S.left source.old; got = K.got sink.old; handed = L.told link.old })
+        (record { left = S.left source.new; got = K.got sink.new; handed = L.told link.new }) }
+    ensures source_rose { result ≡ BatchEnd.SourceFailed
+        → Rose (S.faults source.old) (S.faults source.new) }
+    ensures sink_failed { result ≡ BatchEnd.SinkFailed → RunCutOff beginning
+        (record { left = S.left source.old; got = K.got sink.old; handed = L.told link.old })
+        (record { left = S.left source.new; got = K.got sink.new; handed = L.told link.new }) }
+    ensures sink_rose { result ≡ BatchEnd.SinkFailed
+        → Rose (K.faults sink.old) (K.faults sink.new) }
+    ensures unframed { result ≡ BatchEnd.Unframed → RunUnframed beginning
+        (record { left = S.left source.old; got = K.got sink.old; handed = L.told link.old })
+        (record { left = S.left source.new; got = K.got sink.new; handed = L.told link.new }) }
+    ensures memory { result ≡ BatchEnd.OutOfMemory → RunShort beginning
+        (record { left = S.left source.old; got = K.got sink.old; handed = L.told link.old })
+        (record { left = S.left source.new; got = K.got sink.new; handed = L.told link.new }) }
+{
+    match start(machine) {
+        Ok(()) => run_requests(alloc, machine, source, sink, link),
+        Err(_) => BatchEnd::OutOfMemory,
     }
 }

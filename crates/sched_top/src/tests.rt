@@ -1,5 +1,8 @@
 //! Runs of the top call over devices in memory.
-use crate::{MemSink, MemSource, run_words};
+mod runs;
+
+use crate::run_words;
+use http_wire::{MemSink, MemSource};
 use std::alloc::{AllocError, Global};
 use std::process::Abort;
 use std::test::Fail;
@@ -91,7 +94,7 @@ fn check_unframed(
         assert_eq!(rt; first.status, 8);
         assert_eq!(rt; first.output.as_slice(), NO_FIRST.as_bytes());
         assert_eq!(rt; first.left, left);
-        let stream = joined(alloc, &[b"POST /sweep HTTP/1.1\r\n\r\n", input])?;
+        let stream = joined(alloc, &[b"GET / HTTP/1.1\r\n\r\n", input])?;
         let second = run(alloc, &stream, most, &[], &[])?;
         assert_eq!(rt; second.status, 8);
         assert_eq!(rt;
@@ -192,14 +195,14 @@ fn ends_at_failing_calls(rt: HostRuntime) -> Result<(), Fail> {
         assert_eq!(rt; one.output.len(), 0);
     }
     // the sink fails at each byte of two answers, and nothing is read behind the request that it fails at
-    let stream = b"POST /sweep HTTP/1.1\r\n\r\nPOST /sweep HTTP/1.1\r\n\r\n";
+    let stream = b"GET / HTTP/1.1\r\n\r\nGET / HTTP/1.1\r\n\r\n";
     let answers = joined(alloc, &[ANSWER.as_bytes(), ANSWER.as_bytes()])?;
     assert_eq!(rt; answers.len(), 326);
     for taken in 0..326 {
         let one = run(alloc, stream, 1, &[], &[taken as u64 + 1])?;
         assert_eq!(rt; one.status, 4);
         assert_eq!(rt; one.output.as_slice(), &answers[..taken]);
-        assert_eq!(rt; one.left, if taken < 163 { 24 } else { 0 });
+        assert_eq!(rt; one.left, if taken < 163 { 18 } else { 0 });
     }
     // so it does while the refusal of what is no request is written
     let one = run(alloc, b"\r\n", 1, &[], &[5])?;

@@ -1,12 +1,12 @@
 //! The words of the top call.
 ghost use Rattle.std.specs.Prelude.{◌≡◌, ◌↔◌, map, IsTrue};
 ghost use Rattle.sched_plain.specs.History.{beginning};
-ghost use Rattle.sched_top.specs.Batch.{IsBatch, is_end_status, is_exit_status, RunFinished, RunStopped, RunWanting, RunUnframed, RunCutOff};
+ghost use Rattle.sched_top.specs.Batch.{IsBatch, is_end_status, is_exit_status, RunFinished, RunStopped, RunShort, RunUnframed, RunCutOff};
 ghost use Rattle.sched_plain.specs.Outside.{Rose};
 
 use crate::batch::{BatchEnd, run_batch};
-use crate::sink::Sink;
-use crate::source::Source;
+use book_core::Book;
+use http_wire::{Sink, Source};
 use std::alloc::Global;
 use target_link::Link;
 
@@ -59,7 +59,8 @@ fn status_of(end: BatchEnd) -> u8
 /// program's exit status. It waits for nobody and always returns. The one command is `batch`.
 ///
 /// `batch` starts the service upon an empty history and answers the requests of the source (RFC 9112) one after
-/// the other, each before the next is read. Until requests are served each gets a refusal.
+/// the other, each before the next is read, over the history that the one before it left. A creation adds a schedule
+/// (EventBridge Scheduler User Guide, `CreateSchedule`); a sweep sends what is due to its targets by the link.
 ///
 /// | status | comes |
 /// |---|---|
@@ -77,28 +78,35 @@ pub fn run_words<S: Source, K: Sink, L: Link>(
     link: &mut L,
 ) -> u8
     ensures usage { (result ≡ 2) ↔ ¬ (IsBatch (map (λ word. word.now) words.now)) }
-    ensures untouched { result ≡ 2 → (source.new ≡ source.old) × (sink.new ≡ sink.old) }
+    ensures untouched { result ≡ 2 → (source.new ≡ source.old) × (sink.new ≡ sink.old) × (link.new ≡ link.old) }
 
-    ensures finished { result ≡ 0
-        → RunFinished beginning (S.left source.old) (S.left source.new) (K.got sink.old) (K.got sink.new) }
-    ensures source_failed { result ≡ 3
-        → RunStopped beginning (S.left source.old) (S.left source.new) (K.got sink.old) (K.got sink.new) }
-    ensures source_rose { result ≡ 3 → Rose (S.faults source.old) (S.faults source.new) }
-    ensures sink_failed { result ≡ 4
-        → RunCutOff beginning (S.left source.old) (S.left source.new) (K.got sink.old) (K.got sink.new) }
-    ensures sink_rose { result ≡ 4 → Rose (K.faults sink.old) (K.faults sink.new) }
-    ensures memory { result ≡ 7
-        → RunWanting beginning (S.left source.old) (S.left source.new) (K.got sink.old) (K.got sink.new) }
-    ensures unframed { result ≡ 8
-        → RunUnframed beginning (S.left source.old) (S.left source.new) (K.got sink.old) (K.got sink.new) }
+    ensures finished { result ≡ 0 → RunFinished beginning
+        (record { left = S.left source.old; got = K.got sink.old; handed = L.told link.old })
+        (record { left = S.left source.new; got = K.got sink.new; handed = L.told link.new }) }
+    ensures source_failed { result ≡ 3 → RunStopped beginning
+        (record { left = S.left source.old; got = K.got sink.old; handed = L.told link.old })
+        (record { left = S.left source.new; got = K.got sink.new; handed = L.told link.new }) }
+    ensures source_rose { result ≡ 3
+        → Rose (S.faults source.old) (S.faults source.new) }
+    ensures sink_failed { result ≡ 4 → RunCutOff beginning
+        (record { left = S.left source.old; got = K.got sink.old; handed = L.told link.old })
+        (record { left = S.left source.new; got = K.got sink.new; handed = L.told link.new }) }
+    ensures sink_rose { result ≡ 4
+        → Rose (K.faults sink.old) (K.faults sink.new) }
+    ensures unframed { result ≡ 8 → RunUnframed beginning
+        (record { left = S.left source.old; got = K.got sink.old; handed = L.told link.old })
+        (record { left = S.left source.new; got = K.got sink.new; handed = L.told link.new }) }
+    ensures memory { result ≡ 7 → RunShort beginning
+        (record { left = S.left source.old; got = K.got sink.old; handed = L.told link.old })
+        (record { left = S.left source.new; got = K.got sink.new; handed = L.told link.new }) }
     ensures statuses { IsTrue (is_exit_status result) }
-
-    // Nothing is sent to targets.
-    ensures unsent { link.new ≡ link.old }
 {
     if !is_batch(words) {
         return FAULTY_WORDS;
     }
-    let end = run_batch(alloc, source, sink);
+    let Ok(mut book) = Book::new(alloc) else {
+        return OUT_OF_MEMORY;
+    };
+    let end = run_batch(alloc, &mut book, source, sink, link);
     status_of(end)
 }

@@ -1,15 +1,17 @@
 //! The scheduler's program: hands its words, its standard streams and a link to the top call.
 //!
-//! `schedulerd JOURNAL ZONES batch` answers the requests of standard input on standard output. JOURNAL names the
-//! journal's file and ZONES the folder of zone files; neither is opened yet. Nothing goes to standard error.
+//! `schedulerd JOURNAL ZONES batch` answers the requests of standard input on standard output, and sends what is due
+//! to targets on loopback. JOURNAL names the journal's file and ZONES the folder of zone files; neither is opened
+//! yet. Nothing goes to standard error.
 #![tactic(auto)]
 
-use sched_top::{RealSink, RealSource, run_words};
+use http_wire::{RealSink, RealSource};
+use sched_top::run_words;
 use std::alloc::Global;
 use std::io::ErrorKind;
 use std::process::ExitCode;
 use std::{env, io};
-use target_link::ScriptLink;
+use target_link::TcpLink;
 
 /// The words before the command: the program's name, JOURNAL and ZONES.
 const LEADING_WORDS: usize = 3;
@@ -44,7 +46,7 @@ fn run(rt: &HostRuntime) -> Result<u8, u8> {
     let command = command_of(rt.alloc(), &words)?;
     let mut source = RealSource::new(rt.alloc(), rt.reader()).map_err(|_| OUT_OF_MEMORY)?;
     let mut sink = RealSink::new(io::writer(rt));
-    let mut link = ScriptLink::new(rt.alloc(), Vec::new(rt.alloc()));
+    let mut link = TcpLink::new(rt);
     Ok(run_words(rt.alloc(), &command, &mut source, &mut sink, &mut link))
 }
 

@@ -1,0 +1,5 @@
+pub mod ByteLemmas
+pub mod DeviceLemmas
+pub mod HeadLemmas
+pub mod HeaderLemmas
+pub mod FrameLemmas

@@ -1,0 +1,10 @@
+use Rattle.std.proofs.Common.{map, take}
+use Rattle.httparse.specs.Spans.{header_bytes}
+use Rattle.http_wire.specs.Framing.{values_in}
+use Rattle.http_wire.specs.Heads.{HoldsValues}
+use Rattle.http_wire.proofs.framing.header_values.value_of.Given as goal
+
+-- what was found are the values of the headers so far
+abbrev pub invariant-loop-header : goal.invariant-loop-header
+invariant-loop-header l =
+    HoldsValues l.found (values_in l.name (map (header_bytes l.head) (take l.header-index l.headers)))

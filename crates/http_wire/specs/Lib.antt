@@ -1,0 +1,5 @@
+pub mod Devices
+pub mod Memory
+pub mod Framing
+pub mod Heads
+pub mod Response

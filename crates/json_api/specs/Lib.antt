@@ -1,0 +1,4 @@
+pub mod Reading
+pub mod MomentHeaders
+pub mod Bodies
+pub mod Forms

@@ -1,0 +1,2 @@
+//! What requests ask for.
+mod forms;

@@ -1,7 +1,0 @@
-use Rattle.std.proofs.Common.{ap, arith, Some}
-use Rattle.std.proofs.lemmas.Grind.{common_steps}
-use Rattle.sched_top.proofs.ByteLemmas.{front-copied}
-use Rattle.sched_top.proofs.source.MemSourceSource.read.Goals as goal
-
-pub returns-clause-gives : goal.returns-clause-gives
-returns-clause-gives c = ap Some (grind (arith, common_steps, front-copied))

@@ -1,0 +1,17 @@
+pub mod LeadLemmas
+pub mod SendLemmas
+pub mod FitLemmas
+pub mod WentLemmas
+pub mod AttemptLemmas
+pub mod StepLemmas
+pub mod Loads
+pub mod EnterLoads
+pub mod LiveLemmas
+pub mod Finishing
+pub mod WholeLemmas
+pub mod Lawful
+pub mod Single
+pub mod LawfulSweeps
+pub mod Following
+pub mod Bounds
+pub mod Lessening

@@ -1,0 +1,5 @@
+pub mod Sendings
+pub mod Numbers
+pub mod Sweeping
+pub mod Loads
+pub mod Offers

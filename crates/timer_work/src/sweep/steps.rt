@@ -1,0 +1,60 @@
+//! Steps that a sweep adds.
+ghost use Rattle.std.specs.Prelude.{◌≡◌, ◌≤◌, OnOk, OnErr, Err};
+ghost use Rattle.sched_plain.specs.History.{History, ◌upon◌};
+ghost use Rattle.sched_plain.specs.Legal.{MayFollow};
+ghost use Rattle.sched_plain.specs.Validity.{IsValid};
+ghost use Rattle.book_core.specs.InUse.{calendar};
+ghost use Rattle.book_core.specs.Form.{IsFirstForm};
+ghost use Rattle.book_core.specs.Answers.{IsEnd};
+
+use book_core::{LegalFault, Machine};
+use sched_plain::Step;
+
+/// Why a sweep stops before its end.
+#[derive(Clone, Copy, Debug, PartialEq, Eq)]
+pub enum Stop {
+    /// There was no memory for what the next step wants.
+    OutOfMemory,
+    /// The machine answered what none does that stands for a sound history whose shards no other worker took.
+    Unsound,
+}
+
+/// Takes a step, with the room that it wants.
+pub(crate) fn take<M: Machine>(machine: &mut M, step: Step) -> Result<(), Stop>
+    requires valid { IsValid step }
+    requires form { IsFirstForm step }
+    ensures taken { OnOk result ((h : History) → M.stands machine.old h → M.stands machine.new (step upon h)) }
+    ensures follows { OnOk result ((h : History) → M.stands machine.old h → MayFollow calendar h step) }
+    ensures stays { OnErr result ((h : History) → M.stands machine.old h → M.stands machine.new h) }
+    ensures unsound { result ≡ Err Stop.Unsound → (h : History) → M.stands machine.old h → MayFollow calendar h step → ⊥ }
+{
+    if machine.reserve(&step).is_err() {
+        return Err(Stop::OutOfMemory);
+    }
+    match machine.legal(&step) {
+        Ok(()) => {}
+        Err(LegalFault::OutOfMemory) => return Err(Stop::OutOfMemory),
+        Err(LegalFault::Why(_)) => return Err(Stop::Unsound),
+    }
+    machine.apply(step);
+    Ok(())
+}
+
+/// Takes the End of an attempt, in the room that its Begin made.
+pub(crate) fn finish<M: Machine>(machine: &mut M, end: Step) -> Result<(), Stop>
+    requires valid { IsValid end }
+    requires form { IsFirstForm end }
+    requires ends { IsEnd end }
+    ensures taken { OnOk result ((h : History) → M.stands machine.old h → M.stands machine.new (end upon h)) }
+    ensures follows { OnOk result ((h : History) → M.stands machine.old h → MayFollow calendar h end) }
+    ensures stays { OnErr result ((h : History) → M.stands machine.old h → M.stands machine.new h) }
+    ensures unsound { result ≡ Err Stop.Unsound → (h : History) → M.stands machine.old h → MayFollow calendar h end → ⊥ }
+{
+    match machine.legal(&end) {
+        Ok(()) => {}
+        Err(LegalFault::OutOfMemory) => return Err(Stop::OutOfMemory),
+        Err(LegalFault::Why(_)) => return Err(Stop::Unsound),
+    }
+    machine.apply(end);
+    Ok(())
+}

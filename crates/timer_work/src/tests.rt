@@ -1,0 +1,2 @@
+//! Sweeps over a machine and a link in memory.
+mod sweeps;
