@@ -169,14 +169,25 @@ fn asked(
     read_form(alloc, &request)
 }
 
+/// Whether a request has one of the two forms.
+fn is_form(
+    alloc: Global,
+    method: &str,
+    target: &str,
+    moments: &[&str],
+    body: &[u8],
+) -> Result<bool, AllocError> {
+    Ok(asked(alloc, method, target, moments, body)?.is_some())
+}
+
 /// Whether a creation with this body has the form.
 fn is_body(alloc: Global, body: &[u8]) -> Result<bool, AllocError> {
-    Ok(asked(alloc, "POST", "/schedules/once", &[], body)?.is_some())
+    is_form(alloc, "POST", "/schedules/once", &[], body)
 }
 
 /// Whether a creation at this target has the form.
 fn is_target(alloc: Global, target: &str) -> Result<bool, AllocError> {
-    Ok(asked(alloc, "POST", target, &[], BODY.as_bytes())?.is_some())
+    is_form(alloc, "POST", target, &[], BODY.as_bytes())
 }
 
 /// Whether a creation with this role has the form.
@@ -321,13 +332,26 @@ fn check_sweep(
     Ok(())
 }
 
-/// No form has this method.
-fn check_method(rt: &impl Abort, alloc: Global, method: &str) -> Result<(), AllocError> {
-    let sweep = asked(alloc, method, "/sweep", &[], b"")?;
-    assert!(rt; sweep.is_none(), "at {method}");
-    let creation = asked(alloc, method, "/schedules/once", &[], BODY.as_bytes())?;
-    assert!(rt; creation.is_none(), "at {method}");
+/// A sweep or a creation with this method and these headers of X-Moment has no form.
+fn check_no_form(
+    rt: &impl Abort,
+    alloc: Global,
+    method: &str,
+    moments: &[&str],
+) -> Result<(), AllocError> {
+    let sweep = is_form(alloc, method, "/sweep", moments, b"")?;
+    assert!(rt; !sweep, "at {method}");
+    let creation = is_form(alloc, method, "/schedules/once", moments, BODY.as_bytes())?;
+    assert!(rt; !creation, "at {method}");
     Ok(())
+}
+
+/// The moment that a sweep with this value of X-Moment tells.
+fn told(alloc: Global, value: &str) -> Result<Option<Moment>, AllocError> {
+    match asked(alloc, "POST", "/sweep", &[value], b"")? {
+        Some(form) => Ok(form.told),
+        None => Ok(None),
+    }
 }
 
 /// This value of X-Moment tells the moment.
@@ -337,35 +361,38 @@ fn check_moment(
     value: &str,
     seconds: u64,
 ) -> Result<(), AllocError> {
-    let Some(form) = asked(alloc, "POST", "/sweep", &[value], b"")? else {
-        panic!(rt; "none at {value}");
-    };
-    assert_eq!(rt; form.told, Some(Moment(seconds)), "at {value}");
+    let told = told(alloc, value)?;
+    assert_eq!(rt; told, Some(Moment(seconds)), "at {value}");
     Ok(())
 }
 
-/// Headers of X-Moment with these values may not stand so.
-fn check_no_moment(rt: &impl Abort, alloc: Global, values: &[&str]) -> Result<(), AllocError> {
-    let sweep = asked(alloc, "POST", "/sweep", values, b"")?;
-    assert!(rt; sweep.is_none());
-    let creation = asked(alloc, "POST", "/schedules/once", values, BODY.as_bytes())?;
-    assert!(rt; creation.is_none());
-    Ok(())
+/// Whether a call is this write.
+fn is_write(call: &Call, wanted: &Write) -> bool {
+    match call {
+        Call::Write(write) => write.is_same(wanted),
+        _ => false,
+    }
+}
+
+/// Whether this is asked for: the write, at 900.
+fn asks_for(form: &Option<Form>, wanted: &Write) -> bool {
+    match form {
+        Some(form) => form.told == Some(Moment(900)) && is_write(&form.call, wanted),
+        None => false,
+    }
+}
+
+/// Whether a creation at 900 asks for this write.
+fn is_asked(alloc: Global, wanted: &Write) -> Result<bool, AllocError> {
+    let form = asked(alloc, "POST", "/schedules/once", &["900"], BODY.as_bytes())?;
+    Ok(asks_for(&form, wanted))
 }
 
 #[test]
 fn reads_the_write(rt: HostRuntime) -> Result<(), Fail> {
-    let alloc = rt.alloc();
-    let wanted = creation(&rt, alloc)?;
-    let form = asked(alloc, "POST", "/schedules/once", &["900"], BODY.as_bytes())?;
-    let Some(form) = form else {
-        panic!(rt; "no form");
-    };
-    assert_eq!(rt; form.told, Some(Moment(900)));
-    match &form.call {
-        Call::Write(write) => assert!(rt; write.is_same(&wanted)),
-        _ => panic!(rt; "no write"),
-    }
+    let wanted = creation(&rt, rt.alloc())?;
+    let is_asked = is_asked(rt.alloc(), &wanted)?;
+    assert!(rt; is_asked);
     Ok(())
 }
 
@@ -440,10 +467,9 @@ fn takes_sweeps(rt: HostRuntime) -> Result<(), Fail> {
 
 #[test]
 fn takes_posts_alone(rt: HostRuntime) -> Result<(), Fail> {
-    check_method(&rt, rt.alloc(), "GET")?;
-    check_method(&rt, rt.alloc(), "PUT")?;
-    check_method(&rt, rt.alloc(), "post")?;
-    check_method(&rt, rt.alloc(), "")?;
+    for method in ["GET", "PUT", "post", ""] {
+        check_no_form(&rt, rt.alloc(), method, &[])?;
+    }
     Ok(())
 }
 
@@ -453,10 +479,10 @@ fn takes_one_moment(rt: HostRuntime) -> Result<(), Fail> {
     check_moment(&rt, alloc, "0", 0)?;
     check_moment(&rt, alloc, "0000000900", 900)?;
     check_moment(&rt, alloc, "7258118399", 7_258_118_399)?;
-    check_no_moment(&rt, alloc, &["7", "7"])?;
-    check_no_moment(&rt, alloc, &["7", "8", "9"])?;
+    check_no_form(&rt, alloc, "POST", &["7", "7"])?;
+    check_no_form(&rt, alloc, "POST", &["7", "8", "9"])?;
     for value in &NO_MOMENTS {
-        check_no_moment(&rt, alloc, &[*value])?;
+        check_no_form(&rt, alloc, "POST", &[*value])?;
     }
     Ok(())
 }
