@@ -13,9 +13,9 @@ use Rattle.sched_plain.specs.declared.step.Step.{Step}
 use Rattle.sched_plain.specs.declared.step.Step.TheVariants as steps
 use Rattle.sched_plain.specs.declared.write.Write.TheVariants as writes
 use Rattle.sched_plain.specs.History.{History, beginning, ◌upon◌}
-use Rattle.sched_plain.specs.Ids.{shard_of}
-use Rattle.sched_plain.specs.Moments.{moment_of, last_moment}
-use Rattle.sched_plain.specs.Lists.{nth, some_pass, numbers, only_if, or_else}
+use Rattle.plain_words.specs.Ids.{shard_of}
+use Rattle.plain_words.specs.Moments.{moment_of, last_moment}
+use Rattle.plain_words.specs.Lists.{nth, some_pass, numbers, only_if, or_else}
 use Rattle.sched_plain.specs.Changes.{changes_of}
 use Rattle.sched_plain.specs.Rows.{rows_of, content_at, covers, revision_from}
 use Rattle.sched_plain.specs.Groups.{groups_of, default_name}
@@ -28,7 +28,8 @@ use Rattle.sched_plain.specs.Rules.{window_of}
 use Rattle.book_core.specs.Form.{IsFirstForm, IsSound}
 use Rattle.book_core.specs.Births.{Birth, births, row_of, items_of, origin_of, track}
 use Rattle.book_core.specs.Track.{track_after, after_creation, after_enter, after_lease, window_seen, policy_entered, policy_seen, covers_from}
-use Rattle.book_core.proofs.ListLemmas.{map_same, nth-map, nth-snoc, filter_none, some_pass_none}
+use Rattle.book_core.specs.Made.{content_of}
+use Rattle.plain_words.proofs.ListLemmas.{nth_map, map_same, nth_snoc, filter_none, some_pass_none}
 
 -- each step of a history is of the first forms
 abbrev pub AllFirst : History → Type 0
@@ -130,7 +131,7 @@ items_births (steps.Change at (writes.CreateSchedule group name token content) u
     (ap (λ (bytes : Option (List ℕ)). opened bytes at.0 at.0 content ∷ []) (read_plain h content.zone p.0))
     (written_none h at.0 group name token content (nth (rows_of (changes_of h)) inc) (items h inc) ∙ items_births h inc p.0)
     ∙ sym (born_items (inc == length (births h) + 1) new (nth (births h) inc))
-    ∙ ap items_of (sym (nth-snoc (births h) new inc))
+    ∙ ap items_of (sym (nth_snoc (births h) new inc))
 items_births (steps.Change at (writes.UpdateSchedule group name token content) upon h) inc p = cc p.1
 items_births (steps.Change at (writes.DeleteSchedule group name token) upon h) inc p = cc p.1
 items_births (steps.Change at (writes.CreateGroup name token) upon h) inc p = cc p.1
@@ -149,10 +150,6 @@ pub ended_none : (rows : List Row) (group name : List ℕ) (token : Option (List
 ended_none rows group name token content =
     filter_none (λ (inc : ℕ). some_pass (λ (row : Row). false) (nth rows inc)) (numbers 1 (length rows)) (λ inc. some_pass_none (nth rows inc))
 
--- the content that a creation gives at an instant
-abbrev pub content_of : ℕ → Birth → Option Schedule
-content_of instant b = if covers_from (origin_of b) instant then Some b.content else None
-
 content_row : (o : Option Birth) (instant : ℕ)
     → option_and_then (λ (row : Row). option_map (λ (revision : Revision). revision.content) (find (covers instant) row.revisions)) (option_map row_of o)
     ≡ option_and_then (content_of instant) o
@@ -164,7 +161,7 @@ content_row (Some b) instant =
 pub content_birth : (h : History) (inc instant : ℕ) → AllFirst h
     → content_at (rows_of (changes_of h)) inc instant ≡ option_and_then (content_of instant) (nth (births h) inc)
 content_birth h inc instant p =
-    rw (rows_births h p, nth-map row_of (births h) inc) (content_row (nth (births h) inc) instant)
+    rw (rows_births h p, nth_map row_of (births h) inc) (content_row (nth (births h) inc) instant)
 
 -- the window of an incarnation at an instant
 window_birth : (o : Option Birth) (instant : ℕ) → window_of (option_and_then (content_of instant) o) ≡ window_seen (option_map origin_of o) instant
@@ -258,7 +255,7 @@ track_created : (h : History) (inc instant at : ℕ) (group name : List ℕ) (to
 track_created h inc instant at group name token content =
     let new : Birth = record { at = at; group = group; name = name; content = content } in λ t. record {
       created = length-append (births h) (new ∷ []) t;
-      origin = (ap (option_map origin_of) (nth-snoc (births h) new inc) ∙ born_origin (inc == length (births h) + 1) new (nth (births h) inc)) t;
+      origin = (ap (option_map origin_of) (nth_snoc (births h) new inc) ∙ born_origin (inc == length (births h) + 1) new (nth (births h) inc)) t;
       held = holder h (shard_of inc);
       filed = ap (λ (incs : List ℕ). filed (map Cancelled incs ++ ledger_of h) inc instant) (ended_none (rows_of (changes_of h)) group name token content) t;
     }

@@ -4,6 +4,7 @@ use Rattle.std.specs.Prelude.{◌==◌, nat_le, ◌&&◌, ◌||◌, not, if◌th
 use Rattle.std.specs.List.{filter, list_any}
 use Rattle.std.specs.Option.{option_map, option_and_then, option_to_list}
 use Rattle.std.proofs.lemmas.List.{take_all, append-nil, length-map}
+use Rattle.std.proofs.lemmas.List.Folds.{list_any-append}
 use Rattle.std.proofs.lemmas.Bool.Decides.{nat_tests}
 use Rattle.sched_plain.specs.declared.row.Row.{Row}
 use Rattle.sched_plain.specs.declared.row.GroupRow.{GroupRow}
@@ -17,9 +18,10 @@ use Rattle.sched_plain.specs.declared.why.Why.TheVariants as whys
 use Rattle.sched_plain.specs.declared.write.Write.{Write}
 use Rattle.sched_plain.specs.declared.write.Write.TheVariants as writes
 use Rattle.sched_plain.specs.History.{History, beginning, ◌upon◌, grown}
-use Rattle.sched_plain.specs.Ids.{shard_of}
-use Rattle.sched_plain.specs.Moments.{moment, moment_of, at_of}
-use Rattle.sched_plain.specs.Lists.{nth, first_some, when, some_pass, numbers, head}
+use Rattle.plain_words.specs.declared.limits.TheConstants.{MOST_INCARNATIONS, MOST_SCHEDULES}
+use Rattle.sched_plain.specs.Moments.{moment, at_of}
+use Rattle.plain_words.specs.Moments.{moment_of}
+use Rattle.plain_words.specs.Lists.{nth, first_some, when, some_pass, numbers, head}
 use Rattle.sched_plain.specs.Changes.{changes_of}
 use Rattle.sched_plain.specs.Rows.{rows_of, same_text, is_at, living, touched_by, content_at}
 use Rattle.sched_plain.specs.Groups.{groups_of, row_fault, living_count, default_name}
@@ -34,8 +36,10 @@ use Rattle.book_core.specs.Track.{window_seen}
 use Rattle.book_core.specs.Births.{Birth, births, row_of, origin_of}
 use Rattle.book_core.specs.Creations.{has_name, births_of, creates, creation_fault, outside_seen, write_why}
 use Rattle.book_core.specs.Questions.{first_unentered}
+use Rattle.plain_words.proofs.Booleans.{or_assoc, or_alike, or_false}
 use Rattle.book_core.proofs.OpenLemmas.{unentered_open}
-use Rattle.book_core.proofs.ListLemmas.{grown-more, filter_none, some_pass_none}
+use Rattle.plain_words.proofs.ListLemmas.{filter_none, some_pass_none}
+use Rattle.sched_plain.proofs.HistoryLemmas.{grown_more}
 use Rattle.book_core.proofs.BirthLemmas.{AllFirst, rows_births, length_births, groups_first, window_tracked}
 
 -- the moment of a history is that of its last step
@@ -44,32 +48,9 @@ moment_last xs x h is =
     let lt : length xs - 1 < length xs = omega arith in
     let all : length xs ≤ length xs - 1 + 1 = omega arith in
     ap at_of is
-    ∙ ap moment (sym (grown-more xs (length xs - 1) x lt) ∙ ap (grown beginning) (take_all (length xs - 1 + 1) xs all))
+    ∙ ap moment (sym (grown_more xs (length xs - 1) x lt) ∙ ap (grown beginning) (take_all (length xs - 1 + 1) xs all))
 
--- a shard is its own number's
-pub own_shard : (shard : ℕ) → shard ≤ 7 → shard_of shard ≡ shard
-own_shard shard h = omega arith
-
-or_assoc : (a whole b c : Bool) → whole ≡ (b || c) → (a || whole) ≡ (a || b || c)
-or_assoc true whole b c e = refl
-or_assoc false whole b c e = e
-
-or_regroup : (a b c : Bool) → ((a || b) || c) ≡ (a || (b || c))
-or_regroup true b c = refl
-or_regroup false b c = refl
-
-or_alike : (a b x y : Bool) → a ≡ x → b ≡ y → (a || b) ≡ (x || y)
-or_alike a b x y e f = rw (e, f) refl
-
-or_none : (a : Bool) → (a || false) ≡ a
-or_none true = refl
-or_none false = refl
-
--- whether one of a list passes: by its places, and along two lists
-any_append : {A : Type 0} (test : A → Bool) (xs ys : List A) → list_any test (xs ++ ys) ≡ (list_any test xs || list_any test ys)
-any_append test [] ys = refl
-any_append test (x ∷ xs) ys = or_assoc (test x) (list_any test (xs ++ ys)) _ _ (any_append test xs ys)
-
+-- whether one of a mapped list passes
 any_map : {A B : Type 0} (f : A → B) (test : B → Bool) (other : A → Bool) → ((x : A) → test (f x) ≡ other x) → (xs : List A) → list_any test (map f xs) ≡ list_any other xs
 any_map f test other e [] = refl
 any_map f test other e (x ∷ xs) = or_alike (test (f x)) _ _ _ (e x) (any_map f test other e xs)
@@ -119,7 +100,7 @@ births_upon h (steps.Swept at shard) = sym (append-nil (births h))
 created_here : (group name : List ℕ) (s : Step) → list_any (has_name group name) (births_of s) ≡ creates group name s
 created_here group name (steps.Boot at) = refl
 created_here group name (steps.Zone at called bytes) = refl
-created_here group name (steps.Change at (writes.CreateSchedule of called token content)) = or_none (same_text group of && same_text name called)
+created_here group name (steps.Change at (writes.CreateSchedule of called token content)) = or_false (same_text group of && same_text name called)
 created_here group name (steps.Change at (writes.UpdateSchedule of called token content)) = refl
 created_here group name (steps.Change at (writes.DeleteSchedule of called token)) = refl
 created_here group name (steps.Change at (writes.CreateGroup called token)) = refl
@@ -135,12 +116,12 @@ created_here group name (steps.Swept at shard) = refl
 
 taken_grown : (group name : List ℕ) (h : History) (xs : List Step)
     → list_any (has_name group name) (births (grown h xs)) ≡ (list_any (has_name group name) (births h) || list_any (creates group name) xs)
-taken_grown group name h [] = sym (or_none (list_any (has_name group name) (births h)))
+taken_grown group name h [] = sym (or_false (list_any (has_name group name) (births h)))
 taken_grown group name h (x ∷ xs) =
     taken_grown group name (x upon h) xs
     ∙ ap (λ (b : Bool). b || list_any (creates group name) xs)
-    (ap (list_any (has_name group name)) (births_upon h x) ∙ any_append (has_name group name) (births h) (births_of x) ∙ ap (λ (b : Bool). list_any (has_name group name) (births h) || b) (created_here group name x))
-    ∙ or_regroup (list_any (has_name group name) (births h)) (creates group name x) (list_any (creates group name) xs)
+    (ap (list_any (has_name group name)) (births_upon h x) ∙ list_any-append (has_name group name) (births h) (births_of x) ∙ ap (λ (b : Bool). list_any (has_name group name) (births h) || b) (created_here group name x))
+    ∙ or_assoc (list_any (has_name group name) (births h)) (creates group name x) (list_any (creates group name) xs)
 
 -- a name is taken exactly where a step created it
 pub taken_steps : (xs : List Step) (group name : List ℕ) → AllFirst (history_of xs)
@@ -151,21 +132,21 @@ taken_steps xs group name p =
     ∙ any_map row_of (is_at group name) (has_name group name) (λ b. refl) (births (history_of xs))
     ∙ taken_grown group name beginning xs
 
-many_seen : (many more : Bool) (n : ℕ) → nat_le 10000 n ≡ many → nat_le 4294967295 n ≡ more
+many_seen : (many more : Bool) (n : ℕ) → nat_le MOST_SCHEDULES n ≡ many → nat_le MOST_INCARNATIONS n ≡ more
     → first_some (when many (faults.TooMany n) ∷ when more (faults.TooMany n) ∷ []) ≡ (if many then Some (faults.TooMany n) else None)
 many_seen true more n e f = refl
-many_seen false true n e f = absurd (let a : n < 10000 = grind (arith, nat_tests) in let b : 4294967295 ≤ n = grind (arith, nat_tests) in omega arith)
+many_seen false true n e f = absurd (let a : n < MOST_SCHEDULES = grind (arith, nat_tests) in let b : MOST_INCARNATIONS ≤ n = grind (arith, nat_tests) in omega arith)
 many_seen false false n e f = refl
 
 -- the fault of a creation, by what is looked up
 fault_seen : (default taken : Bool) (living created : ℕ) → living ≡ created
-    → first_some (when (not (default || false)) faults.NoGroup ∷ when taken faults.Exists ∷ when (nat_le 10000 living) (faults.TooMany living) ∷ when (nat_le 4294967295 created) (faults.TooMany created) ∷ [])
+    → first_some (when (not (default || false)) faults.NoGroup ∷ when taken faults.Exists ∷ when (nat_le MOST_SCHEDULES living) (faults.TooMany living) ∷ when (nat_le MOST_INCARNATIONS created) (faults.TooMany created) ∷ [])
     ≡ creation_fault default taken created
 fault_seen false taken living created e = refl
 fault_seen true true living created e = refl
 fault_seen true false living created e =
-    ap (λ (n : ℕ). first_some (when (nat_le 10000 n) (faults.TooMany n) ∷ when (nat_le 4294967295 created) (faults.TooMany created) ∷ [])) e
-    ∙ many_seen (nat_le 10000 created) (nat_le 4294967295 created) created refl refl
+    ap (λ (n : ℕ). first_some (when (nat_le MOST_SCHEDULES n) (faults.TooMany n) ∷ when (nat_le MOST_INCARNATIONS created) (faults.TooMany created) ∷ [])) e
+    ∙ many_seen (nat_le MOST_SCHEDULES created) (nat_le MOST_INCARNATIONS created) created refl refl
 
 pub fault_steps : (xs : List Step) (group name : List ℕ) (token : Option (List ℕ)) (content : Schedule) → AllFirst (history_of xs)
     → row_fault (rows_of (changes_of (history_of xs))) (groups_of (changes_of (history_of xs))) (writes.CreateSchedule group name token content)
@@ -176,8 +157,8 @@ fault_steps xs group name token content p =
     let many : living_count rows ≡ length (births h) =
     ap living_count (rows_births h p) ∙ ap length (all_live (births h)) ∙ length-map (births h) row_of in
     ap (λ (groups : List GroupRow). row_fault rows groups (writes.CreateSchedule group name token content)) (groups_first h p)
-    ∙ ap (λ (b : Bool). first_some (when (not (same_text group default_name || false)) faults.NoGroup ∷ when b faults.Exists ∷ when (nat_le 10000 (living_count rows)) (faults.TooMany (living_count rows)) ∷ when (nat_le 4294967295 (length rows)) (faults.TooMany (length rows)) ∷ [])) (taken_steps xs group name p)
-    ∙ ap (λ (n : ℕ). first_some (when (not (same_text group default_name || false)) faults.NoGroup ∷ when (list_any (creates group name) xs) faults.Exists ∷ when (nat_le 10000 (living_count rows)) (faults.TooMany (living_count rows)) ∷ when (nat_le 4294967295 n) (faults.TooMany n) ∷ [])) (length_births h p)
+    ∙ ap (λ (b : Bool). first_some (when (not (same_text group default_name || false)) faults.NoGroup ∷ when b faults.Exists ∷ when (nat_le MOST_SCHEDULES (living_count rows)) (faults.TooMany (living_count rows)) ∷ when (nat_le MOST_INCARNATIONS (length rows)) (faults.TooMany (length rows)) ∷ [])) (taken_steps xs group name p)
+    ∙ ap (λ (n : ℕ). first_some (when (not (same_text group default_name || false)) faults.NoGroup ∷ when (list_any (creates group name) xs) faults.Exists ∷ when (nat_le MOST_SCHEDULES (living_count rows)) (faults.TooMany (living_count rows)) ∷ when (nat_le MOST_INCARNATIONS n) (faults.TooMany n) ∷ [])) (length_births h p)
     ∙ fault_seen (same_text group default_name) (list_any (creates group name) xs) (living_count rows) (length (births h)) many
 
 -- a creation touches nothing

@@ -1,13 +1,11 @@
-pub mod ListLemmas
 pub mod BirthLemmas
-pub mod RuleLemmas
 pub mod SmallLemmas
-pub mod PrefixLemmas
-pub mod TrackLemmas
-pub mod CivilLemmas
 pub mod OpenLemmas
 pub mod WorkLemmas
 pub mod ChangeLemmas
-pub mod RoomLemmas
 pub mod BookLemmas
-pub mod MadeLemmas
+mod RuleLemmas
+mod PrefixLemmas
+mod TrackLemmas
+mod RoomLemmas
+mod MadeLemmas

@@ -4,21 +4,21 @@ use Rattle.std.specs.Prelude.{◌==◌, if◌then◌else◌}
 use Rattle.std.specs.List.{flat_map}
 use Rattle.std.specs.Option.{option_map, option_and_then}
 use Rattle.std.proofs.lemmas.List.{append-nil}
-use Rattle.sched_plain.specs.declared.moment.Moment.{Moment}
+use Rattle.plain_words.specs.declared.moment.Moment.{Moment}
 use Rattle.sched_plain.specs.declared.row.Row.{Row}
 use Rattle.sched_plain.specs.declared.schedule.Schedule.{Schedule}
 use Rattle.sched_plain.specs.declared.step.Step.{Step}
 use Rattle.sched_plain.specs.declared.step.Step.TheVariants as steps
 use Rattle.sched_plain.specs.declared.write.Write.TheVariants as writes
 use Rattle.sched_plain.specs.History.{History, beginning, ◌upon◌, grown}
-use Rattle.sched_plain.specs.Lists.{nth}
+use Rattle.plain_words.specs.Lists.{nth}
 use Rattle.sched_plain.specs.Changes.{changes_of}
 use Rattle.sched_plain.specs.Rows.{rows_of, content_at}
 use Rattle.book_core.specs.State.{history_of}
 use Rattle.book_core.specs.Births.{Birth, births, row_of}
 use Rattle.book_core.specs.Creations.{births_of}
 use Rattle.book_core.specs.Made.{creations, content_of, content_in, names_in, row_names}
-use Rattle.book_core.proofs.ListLemmas.{nth-map}
+use Rattle.plain_words.proofs.ListLemmas.{nth_map}
 use Rattle.book_core.proofs.BirthLemmas.{AllFirst, rows_births, content_birth}
 use Rattle.book_core.proofs.ChangeLemmas.{births_upon}
 
@@ -80,4 +80,4 @@ names_steps xs inc p =
     sym (made_at birth_names names_in (λ at group name token content. refl) xs inc)
     ∙ ap (λ (all : List Birth). option_and_then birth_names (nth all inc)) (sym (births_grown beginning xs))
     ∙ named_row (nth (births h) inc)
-    ∙ ap (option_map row_names) (sym (ap (λ (rows : List Row). nth rows inc) (rows_births h p) ∙ nth-map row_of (births h) inc))
+    ∙ ap (option_map row_names) (sym (ap (λ (rows : List Row). nth rows inc) (rows_births h p) ∙ nth_map row_of (births h) inc))

@@ -1,30 +1,29 @@
 -- What is unentered of a schedule of the first forms: its one occurrence, where nothing is filed for it.
-use Rattle.std.proofs.Common.{◌≡◌, ℕ, zero, suc, ◌+◌, Bool, true, false, cond, Option, Some, None, List, [], ◌∷◌, ◌++◌, refl, ap, sym, ◌∙◌, arith, eqb-true, eq-eqb}
+use Rattle.std.proofs.Common.{◌≡◌, ℕ, zero, suc, ◌+◌, Bool, true, false, Option, Some, None, List, [], ◌∷◌, refl, ap, sym, ◌∙◌, arith, eqb-true, eq-eqb}
 use Rattle.std.specs.Prelude.{◌==◌, nat_le, nat_lt, ◌&&◌, ◌||◌, if◌then◌else◌, is_some}
-use Rattle.std.specs.List.{find, list_any}
 use Rattle.std.specs.Option.{option_map, option_and_then, option_to_list}
 use Rattle.std.proofs.lemmas.Bool.Decides.{nat_tests}
-use Rattle.sched_plain.specs.declared.entry.Entry.{Entry}
 use Rattle.sched_plain.specs.declared.entry.Filed.{Filed}
-use Rattle.sched_plain.specs.declared.expression.Expr.{Expr}
-use Rattle.sched_plain.specs.declared.expression.Expr.TheVariants as exprs
-use Rattle.sched_plain.specs.declared.schedule.Policy.{Policy}
+use Rattle.expressions.specs.declared.expression.Expr.{Expr}
+use Rattle.expressions.specs.declared.expression.Expr.TheVariants as exprs
 use Rattle.sched_plain.specs.declared.schedule.Schedule.{Schedule}
 use Rattle.sched_plain.specs.declared.step.Pair.{Pair}
 use Rattle.sched_plain.specs.History.{History}
-use Rattle.sched_plain.specs.Moments.{last_moment}
-use Rattle.sched_plain.specs.Expressions.{is_civil, civil_second}
-use Rattle.sched_plain.specs.Lists.{nth, put_if, or_else}
+use Rattle.plain_words.specs.Moments.{last_moment}
+use Rattle.expressions.specs.CivilSeconds.{is_civil, civil_second}
+use Rattle.plain_words.specs.Lists.{nth, put_if}
 use Rattle.sched_plain.specs.Items.{Item}
-use Rattle.sched_plain.specs.Occurrences.{is_within_dates, passing, occ_below}
-use Rattle.sched_plain.specs.Ledger.{LedgerCall, Entered, Begun, Finished, Closed, Cancelled, Lost, ledger_of}
-use Rattle.sched_plain.specs.Entries.{entries, filed, filed_by, is_paired, changed_if, new_entry}
+use Rattle.sched_plain.specs.Occurrences.{is_within_dates, occ_below}
+use Rattle.plain_words.specs.Lists.{passing}
+use Rattle.sched_plain.specs.Ledger.{ledger_of}
+use Rattle.sched_plain.specs.Entries.{entries, filed, is_paired}
 use Rattle.sched_plain.specs.Marks.{unentered, without_pair}
 use Rattle.book_core.specs.declared.track.Origin.{Origin}
 use Rattle.book_core.specs.InUse.{calendar, is_instant}
 use Rattle.book_core.specs.Births.{Birth, births, items_of, origin_of}
 use Rattle.book_core.specs.Track.{covers_from}
 use Rattle.book_core.specs.Open.{instant_of, if_covered, if_open, open_of}
+use Rattle.sched_plain.proofs.LedgerLemmas.{filed_paired}
 use Rattle.book_core.proofs.BirthLemmas.{AllFirst, items_births}
 
 -- where a test passes a number at most, what passes below a bound is that number or nothing
@@ -65,51 +64,6 @@ passing_only test k (suc n) one = ap (put_if (test n) n) (passing_only test k n 
 pub passing_none : (test : ℕ → Bool) (n : ℕ) → ((i : ℕ) → test i ≡ false) → passing test n ≡ []
 passing_none test zero h = refl
 passing_none test (suc n) h = rw (h n) (passing_none test n h)
-
-or_assoc : (a whole b c : Bool) → whole ≡ (b || c) → (a || whole) ≡ (a || b || c)
-or_assoc true whole b c e = refl
-or_assoc false whole b c e = e
-
-or_alike : (a b x y : Bool) → a ≡ x → b ≡ y → (a || b) ≡ (x || y)
-or_alike a b x y e f = rw (e, f) refl
-
--- a pair has the instant exactly where one of them files it
-any_append : {A : Type 0} (test : A → Bool) (xs ys : List A) → list_any test (xs ++ ys) ≡ (list_any test xs || list_any test ys)
-any_append test [] ys = refl
-any_append test (x ∷ xs) ys = or_assoc (test x) (list_any test (xs ++ ys)) _ _ (any_append test xs ys)
-
-found_paired : (policy : Policy) (pairs : List Pair) (instant : ℕ) → is_some (filed_by policy pairs instant) ≡ is_paired pairs instant
-found_paired policy [] instant = refl
-found_paired policy (pair ∷ pairs) instant =
-    elim (instant == pair.instant) as (λ b. is_some {T = Filed} (option_map {T = Pair} (λ pair. record { entry = new_entry pair.chosen; policy = policy }) (cond b (Some pair) (find (λ (x : Pair). instant == x.instant) pairs))) ≡ (b || is_paired pairs instant)) [
-      | true ↦ refl
-      | false ↦ found_paired policy pairs instant
-    ]
-
-changed_there : (b : Bool) (edit : Entry → Entry) (o : Option Filed) → is_some (changed_if b edit o) ≡ is_some o
-changed_there true edit None = refl
-changed_there true edit (Some f) = refl
-changed_there false edit o = refl
-
-or_there : (first second : Option Filed) → is_some (or_else first second) ≡ (is_some first || is_some second)
-or_there None second = refl
-or_there (Some f) second = refl
-
-entered_paired : (same : Bool) (old : Option Filed) (before pairs : List Pair) (policy : Policy) (instant : ℕ) → is_some old ≡ is_paired before instant
-    → is_some (if same then or_else old (filed_by policy pairs instant) else old) ≡ is_paired (if same then before ++ pairs else before) instant
-entered_paired true old before pairs policy instant e =
-    or_there old (filed_by policy pairs instant) ∙ or_alike _ _ _ _ e (found_paired policy pairs instant) ∙ sym (any_append (λ (pair : Pair). instant == pair.instant) before pairs)
-entered_paired false old before pairs policy instant e = e
-
--- an occurrence has an entry exactly where something is filed for it
-pub filed_paired : (calls : List LedgerCall) (inc instant : ℕ) → is_some (filed calls inc instant) ≡ is_paired (entries calls inc) instant
-filed_paired [] inc instant = refl
-filed_paired (Entered of policy pairs ∷ before) inc instant = entered_paired (inc == of) (filed before inc instant) (entries before inc) pairs policy instant (filed_paired before inc instant)
-filed_paired (Begun of at number epoch moment ∷ before) inc instant = changed_there _ _ (filed before inc instant) ∙ filed_paired before inc instant
-filed_paired (Finished of at number verdict status moment ∷ before) inc instant = changed_there _ _ (filed before inc instant) ∙ filed_paired before inc instant
-filed_paired (Closed of at reason ∷ before) inc instant = changed_there _ _ (filed before inc instant) ∙ filed_paired before inc instant
-filed_paired (Cancelled of ∷ before) inc instant = changed_there _ _ (filed before inc instant) ∙ filed_paired before inc instant
-filed_paired (Lost shard moment ∷ before) inc instant = changed_there _ _ (filed before inc instant) ∙ filed_paired before inc instant
 
 -- the choice of one occurrence, test by test
 abbrev pub chosen : Bool → Bool → Bool → Bool → ℕ → Option ℕ

@@ -4,6 +4,7 @@ use Rattle.std.specs.Prelude.{◌==◌, ◌&&◌, ◌||◌, not, if◌then◌els
 use Rattle.std.specs.List.{find}
 use Rattle.std.specs.Option.{option_map}
 use Rattle.std.specs.Prelude.{cond}
+use Rattle.std.proofs.lemmas.Bool.{not-false}
 use Rattle.sched_plain.specs.declared.entry.Filed.{Filed}
 use Rattle.sched_plain.specs.declared.entry.Last.{Last}
 use Rattle.sched_plain.specs.declared.entry.Last.TheVariants as lasts
@@ -12,16 +13,17 @@ use Rattle.sched_plain.specs.declared.schedule.Policy.{Policy}
 use Rattle.sched_plain.specs.declared.step.Pair.{Pair}
 use Rattle.sched_plain.specs.declared.step.Step.{Step}
 use Rattle.sched_plain.specs.declared.step.Step.TheVariants as steps
-use Rattle.sched_plain.specs.declared.verdict.Reason.{Reason}
-use Rattle.sched_plain.specs.declared.verdict.Verdict.{Verdict}
-use Rattle.sched_plain.specs.declared.verdict.Verdict.TheVariants as verdicts
+use Rattle.sched_plain.specs.declared.outcome.Reason.{Reason}
+use Rattle.plain_words.specs.declared.verdict.Verdict.{Verdict}
+use Rattle.plain_words.specs.declared.verdict.Verdict.TheVariants as verdicts
 use Rattle.sched_plain.specs.declared.why.Why.{Why}
 use Rattle.sched_plain.specs.declared.why.Why.TheVariants as whys
 use Rattle.sched_plain.specs.declared.write.Write.TheVariants as writes
 use Rattle.sched_plain.specs.History.{History, beginning, ◌upon◌, grown}
-use Rattle.sched_plain.specs.Ids.{shard_of}
-use Rattle.sched_plain.specs.Moments.{moment, moment_of}
-use Rattle.sched_plain.specs.Lists.{first_some, or_else}
+use Rattle.plain_words.specs.Ids.{shard_of}
+use Rattle.sched_plain.specs.Moments.{moment}
+use Rattle.plain_words.specs.Moments.{moment_of}
+use Rattle.plain_words.specs.Lists.{first_some, or_else}
 use Rattle.sched_plain.specs.Ledger.{ledger_of}
 use Rattle.sched_plain.specs.Leases.{holder, freed, is_taking}
 use Rattle.sched_plain.specs.Entries.{filed, filed_by, changed_if, with_begin, with_end, with_loss, lost_last, new_entry, decided_as, outcome_of}
@@ -37,8 +39,8 @@ use Rattle.book_core.specs.Births.{track}
 use Rattle.book_core.specs.Track.{track_after, after_enter, after_lease, policy_entered}
 use Rattle.book_core.specs.Answers.{IsEnd}
 use Rattle.book_core.proofs.BirthLemmas.{sound_first, track-upon}
-use Rattle.book_core.proofs.RuleLemmas.{all_none, when_none}
-use Rattle.book_core.proofs.CivilLemmas.{and_first, and_second}
+use Rattle.plain_words.proofs.Booleans.{and_first, and_second, or_second}
+use Rattle.plain_words.proofs.ListLemmas.{all_none, when_none}
 
 -- what is filed is in the air only if its attempt has no End yet
 abbrev pub Flies : ℕ → ℕ → Option Filed → List Flight → Type 0
@@ -112,10 +114,6 @@ used_there (Some f) = f.entry.used
 first_true : (a b c : Bool) → a ≡ true → b ≡ true → ((a && b) || c) ≡ true
 first_true a b c e f = rw (e, f) refl
 
-second_true : (a b : Bool) → b ≡ true → (a || b) ≡ true
-second_true true b e = refl
-second_true false b e = e
-
 -- a new entry has no attempt
 new_lies : (policy : Policy) (pairs : List Pair) (instant : ℕ) → live_there (filed_by policy pairs instant) ≡ false
 new_lies policy [] instant = refl
@@ -125,17 +123,13 @@ new_lies policy (pair ∷ pairs) instant =
       | false ↦ new_lies policy pairs instant
     ]
 
-not_false : (b : Bool) → not b ≡ false → b ≡ true
-not_false true e = refl
-not_false false e = cc e
-
 -- the rules of a Begin, where something is filed
 number_left : (held : Holder) (o : Option Filed) (g : Filed) (at inc instant number epoch : ℕ) (m : Option Why)
     → o ≡ Some g → first_some (m ∷ begin_table held o at inc instant number epoch) ≡ None → number ≡ g.entry.used + 1
 number_left held None g at inc instant number epoch m e r = cc e
 number_left held (Some f) g at inc instant number epoch m e r =
     let table = m ∷ begin_table held (Some f) at inc instant number epoch in
-    eqb-true number (f.entry.used + 1) (not_false (number == f.entry.used + 1) (when_none (not (number == f.entry.used + 1)) (whys.Number f.entry.used) (all_none table r).1.1.1.0))
+    eqb-true number (f.entry.used + 1) (not-false (number == f.entry.used + 1) (when_none (not (number == f.entry.used + 1)) (whys.Number f.entry.used) (all_none table r).1.1.1.0))
     ∙ ap (λ (x : Option Filed). used_there x + 1) e
 
 -- what an outcome decides flies as before
@@ -164,7 +158,7 @@ flies_begun true at inc instant of i number (Some g) flights t n h f e l =
     let same : (g.entry.used + 1 == number) ≡ true = eq-eqb (g.entry.used + 1) number (sym (n refl g refl)) in
     subst (λ (k : ℕ). in_air inc instant k (record { inc = of; instant = i; number = number } ∷ flights) ≡ true) (ap used_there e)
     (first_true (inc == of && instant == i) (g.entry.used + 1 == number) (in_air inc instant (g.entry.used + 1) flights) t same)
-flies_begun false at inc instant of i number o flights t n h f e l = second_true (inc == of && instant == i && f.entry.used == number) (in_air inc instant f.entry.used flights) (h f e l)
+flies_begun false at inc instant of i number o flights t n h f e l = or_second (inc == of && instant == i && f.entry.used == number) (in_air inc instant f.entry.used flights) (h f e l)
 
 -- an Enter puts nothing into the air
 flies_entered : (policy : Policy) (pairs : List Pair) (inc instant : ℕ) (o : Option Filed) (flights : List Flight) → Flies inc instant o flights → Flies inc instant (or_else o (filed_by policy pairs instant)) flights
@@ -231,7 +225,7 @@ pub end_room : (h : History) (s : Step) → IsSound h → rule (seen calendar h)
 end_room h (steps.End at inc instant number verdict status) p r e =
     landed_one inc instant number (airborne h)
     (live_flight (filed (ledger_of h) inc instant) inc instant number (airborne h)
-    (not_false _ (when_none (not (is_live_attempt (filed (ledger_of h) inc instant) number)) whys.NotLive
+    (not-false _ (when_none (not (is_live_attempt (filed (ledger_of h) inc instant) number)) whys.NotLive
     (all_none (moment_rule (moment h) (steps.End at inc instant number verdict status) ∷ end_table (filed (ledger_of h) inc instant) number) r).1.0))
     (flying h inc instant p))
 end_room h (steps.Boot at) p r e = absurd e

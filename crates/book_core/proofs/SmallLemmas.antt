@@ -1,8 +1,9 @@
 -- The numbers of a sound history keep their bounds.
-use Rattle.std.proofs.Common.{◌≡◌, ℕ, suc, ◌+◌, ◌≤◌, Bool, true, false, Option, Some, None, List, [], ◌∷◌, refl, ap, sym, subst, ◌∙◌, arith, eqb-true}
+use Rattle.std.proofs.Common.{◌≡◌, ℕ, suc, ◌+◌, ◌*◌, ◌<◌, ◌≤◌, Bool, true, false, Option, Some, None, List, [], ◌∷◌, refl, ap, sym, subst, ◌∙◌, arith, eqb-true}
 use Rattle.std.specs.Prelude.{◌==◌, if◌then◌else◌, ◌&&◌, cond}
 use Rattle.std.specs.List.{find, All}
 use Rattle.std.specs.Option.{option_map}
+use Rattle.plain_words.specs.declared.limits.TheConstants.{LONGEST_WINDOW, MOST_RETRIES}
 use Rattle.sched_plain.specs.declared.entry.Entry.{Entry}
 use Rattle.sched_plain.specs.declared.entry.Filed.{Filed}
 use Rattle.sched_plain.specs.declared.entry.Last.{Last}
@@ -12,15 +13,15 @@ use Rattle.sched_plain.specs.declared.schedule.Policy.{Policy}
 use Rattle.sched_plain.specs.declared.step.Pair.{Pair}
 use Rattle.sched_plain.specs.declared.step.Step.{Step}
 use Rattle.sched_plain.specs.declared.step.Step.TheVariants as steps
-use Rattle.sched_plain.specs.declared.verdict.Outcome.{Outcome}
-use Rattle.sched_plain.specs.declared.verdict.Verdict.{Verdict}
-use Rattle.sched_plain.specs.declared.verdict.Verdict.TheVariants as verdicts
+use Rattle.sched_plain.specs.declared.outcome.Outcome.{Outcome}
+use Rattle.plain_words.specs.declared.verdict.Verdict.{Verdict}
+use Rattle.plain_words.specs.declared.verdict.Verdict.TheVariants as verdicts
 use Rattle.sched_plain.specs.declared.why.Why.{Why}
 use Rattle.sched_plain.specs.declared.write.Write.TheVariants as writes
 use Rattle.sched_plain.specs.History.{History, beginning, ◌upon◌}
-use Rattle.sched_plain.specs.Ids.{shard_of}
-use Rattle.sched_plain.specs.Moments.{last_moment, moment_of}
-use Rattle.sched_plain.specs.Lists.{or_else, first_some}
+use Rattle.plain_words.specs.Ids.{shard_of}
+use Rattle.plain_words.specs.Moments.{last_moment, moment_of}
+use Rattle.plain_words.specs.Lists.{or_else, first_some}
 use Rattle.sched_plain.specs.Ledger.{ledger_of}
 use Rattle.sched_plain.specs.Leases.{holder, freed, is_taking}
 use Rattle.sched_plain.specs.Entries.{filed, filed_by, changed_if, on_entry, with_begin, with_end, with_loss, lost_last, decided_as, outcome_of, new_entry}
@@ -35,7 +36,10 @@ use Rattle.book_core.specs.Births.{track}
 use Rattle.book_core.specs.Track.{origin_from, track_after, after_enter, after_lease, policy_entered, covers_from}
 use Rattle.book_core.specs.Small.{last_at, SmallFiled, IsSmallFiled, IsSmallOrigin, SmallTrack}
 use Rattle.book_core.proofs.BirthLemmas.{sound_first, track-upon}
-use Rattle.book_core.proofs.RuleLemmas.{all_none, due_only, due_left}
+use Rattle.plain_words.proofs.Booleans.{and_first, and_second}
+use Rattle.plain_words.proofs.ListLemmas.{all_none}
+use Rattle.sched_plain.proofs.LedgerLemmas.{due_is}
+use Rattle.book_core.proofs.RuleLemmas.{due_left}
 
 -- an edit that keeps the bounds of one keeps those of what is filed
 small_edit : (b : Bool) (edit : Entry → Entry) (o : Option Filed)
@@ -74,13 +78,13 @@ small_begin true at (Some f) a left s =
 small_begin false at o a left s = s
 
 -- a new entry
-small_new : (pair : Pair) (policy : Policy) → IsPair pair → policy.retries ≤ 185 → SmallFiled (record { entry = new_entry pair.chosen; policy = policy })
+small_new : (pair : Pair) (policy : Policy) → IsPair pair → policy.retries ≤ MOST_RETRIES → SmallFiled (record { entry = new_entry pair.chosen; policy = policy })
 small_new pair policy p r =
-    let i : pair.instant ≤ 7258118399 = p.instant in let l : pair.chosen ≤ pair.instant + 86399 = p.late in
+    let i : pair.instant ≤ last_moment = p.instant in let l : pair.chosen < pair.instant + 60 * LONGEST_WINDOW = p.late in
     record { few = omega arith; retries = r; chosen = omega arith; last = omega arith }
 
 -- what valid pairs file
-small_found : (pairs : List Pair) (policy : Policy) (instant : ℕ) → All IsPair pairs → policy.retries ≤ 185 → IsSmallFiled (filed_by policy pairs instant)
+small_found : (pairs : List Pair) (policy : Policy) (instant : ℕ) → All IsPair pairs → policy.retries ≤ MOST_RETRIES → IsSmallFiled (filed_by policy pairs instant)
 small_found [] policy instant all r = tt
 small_found (pair ∷ pairs) policy instant all r =
     let first : IsPair pair = all 0 pair (omega arith) in
@@ -90,23 +94,15 @@ small_found (pair ∷ pairs) policy instant all r =
     ]
 
 -- the policy of a small origin
-small_policy : (origin : Option Origin) (pairs : List Pair) → IsSmallOrigin origin → (policy_entered origin pairs).retries ≤ 185
+small_policy : (origin : Option Origin) (pairs : List Pair) → IsSmallOrigin origin → (policy_entered origin pairs).retries ≤ MOST_RETRIES
 small_policy origin [] s = omega arith
 small_policy None (pair ∷ pairs) s = omega arith
 small_policy (Some o) (pair ∷ pairs) s =
-    elim (covers_from o pair.instant) as (λ b. let p : Policy = if b then o.policy else record { retries = 0; age = 0 } in p.retries ≤ 185) [ true ↦ s.0 | false ↦ omega arith ]
+    elim (covers_from o pair.instant) as (λ b. let p : Policy = if b then o.policy else record { retries = 0; age = 0 } in p.retries ≤ MOST_RETRIES) [ true ↦ s.0 | false ↦ omega arith ]
 
 small_or : (first second : Option Filed) → IsSmallFiled first → IsSmallFiled second → IsSmallFiled (or_else first second)
 small_or None second s t = t
 small_or (Some f) second s t = s
-
-and_first : (a b : Bool) → (a && b) ≡ true → a ≡ true
-and_first true b e = refl
-and_first false b e = cc e
-
-and_second : (a b : Bool) → (a && b) ≡ true → b ≡ true
-and_second true b e = e
-and_second false b e = cc e
 
 -- the rules of a Begin, where something is filed
 begin_left : (held : Holder) (o : Option Filed) (f : Filed) (at inc instant number epoch : ℕ) (m : Option Why)
@@ -115,7 +111,7 @@ begin_left held None f at inc instant number epoch m e r = cc e
 begin_left held (Some g) f at inc instant number epoch m e r =
     let same : g ≡ f = cc e in
     subst (λ (x : Filed). x.entry.used ≤ x.policy.retries) same
-    (due_left g.entry g.policy at (due_only (standing_of g at) (all_none (m ∷ begin_table held (Some g) at inc instant number epoch) r).1.1.0))
+    (due_left g.entry g.policy at (due_is (standing_of g at) (all_none (m ∷ begin_table held (Some g) at inc instant number epoch) r).1.1.0))
 
 -- a legal Begin finds an attempt left
 begin_may : (h : History) (inc instant of i at number epoch : ℕ) → rule (seen calendar h) (steps.Begin (moment_of at) of i number epoch) ≡ None

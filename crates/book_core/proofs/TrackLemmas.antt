@@ -1,12 +1,13 @@
 -- What is told of an occurrence, step after step along a list.
 use Rattle.std.proofs.Common.{◌≡◌, ℕ, ◌+◌, ◌<◌, ◌≤◌, true, false, Option, Some, None, List, length, take, get_or, ap, sym, subst, ◌∙◌, arith}
 use Rattle.std.specs.Prelude.{◌==◌, if◌then◌else◌}
+use Rattle.plain_words.specs.declared.limits.TheConstants.{MOST_RETRIES}
 use Rattle.sched_plain.specs.declared.entry.Filed.{Filed}
 use Rattle.sched_plain.specs.declared.step.Step.{Step}
 use Rattle.sched_plain.specs.declared.step.Step.TheVariants as steps
 use Rattle.sched_plain.specs.declared.write.Write.TheVariants as writes
 use Rattle.sched_plain.specs.History.{History, beginning, ◌upon◌, grown}
-use Rattle.sched_plain.specs.Ids.{shard_of}
+use Rattle.plain_words.specs.Ids.{shard_of}
 use Rattle.sched_plain.specs.Leases.{freed}
 use Rattle.book_core.specs.declared.track.Track.{Track}
 use Rattle.book_core.specs.Form.{IsSound}
@@ -14,7 +15,7 @@ use Rattle.book_core.specs.State.{history_of}
 use Rattle.book_core.specs.Births.{track}
 use Rattle.book_core.specs.Track.{IsFew, track_after, after_enter, after_lease}
 use Rattle.book_core.specs.Small.{IsSmallFiled}
-use Rattle.book_core.proofs.ListLemmas.{grown-more}
+use Rattle.sched_plain.proofs.HistoryLemmas.{grown_more}
 use Rattle.book_core.proofs.BirthLemmas.{sound_first, track-upon}
 use Rattle.book_core.proofs.SmallLemmas.{sound_small}
 use Rattle.book_core.proofs.PrefixLemmas.{sound_at}
@@ -27,11 +28,11 @@ track_more xs i inc instant x t is h p e =
     ap (track_after inc instant x) e
     ∙ ap (λ (s : Step). track_after inc instant s (track (history_of (take i xs)) inc instant)) is
     ∙ sym (track-upon (history_of (take i xs)) (get_or xs i x) inc instant (sound_first _ q.0) q.1.form)
-    ∙ ap (λ (h : History). track h inc instant) (sym (grown-more xs i x h))
+    ∙ ap (λ (h : History). track h inc instant) (sym (grown_more xs i x h))
 
 few_filed : (o : Option Filed) → IsSmallFiled o → IsFew o
 few_filed None s = tt
-few_filed (Some f) s = let a : f.entry.used ≤ f.policy.retries + 1 = s.few in let b : f.policy.retries ≤ 185 = s.retries in omega arith
+few_filed (Some f) s = let a : f.entry.used ≤ f.policy.retries + 1 = s.few in let b : f.policy.retries ≤ MOST_RETRIES = s.retries in omega arith
 
 -- few attempts were begun so far
 pub few_at : (xs : List Step) (i inc instant : ℕ) (x : Step) (t : Track) → i < length xs → IsSound (history_of xs)

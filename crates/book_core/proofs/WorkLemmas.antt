@@ -1,10 +1,11 @@
 -- The next work of a shard of a sound history, by three questions.
-use Rattle.std.proofs.Common.{◌≡◌, ℕ, suc, ◌+◌, ◌-◌, ◌<◌, ◌≤◌, Bool, true, false, cond, Option, Some, None, List, [], ◌∷◌, ◌++◌, length, map, get_or, drop, refl, ap, sym, ◌∙◌, arith, append_assoc, length-append, length-drop, drop-cons, add-one}
+use Rattle.std.proofs.Common.{◌≡◌, ℕ, suc, ◌+◌, ◌-◌, ◌<◌, ◌≤◌, Bool, true, false, cond, Option, Some, None, List, [], ◌∷◌, ◌++◌, length, get_or, drop, refl, ap, sym, ◌∙◌, arith, append_assoc, length-append, length-drop, drop-cons, add-one}
 use Rattle.std.specs.Prelude.{is_some, is_none, ◌==◌, nat_le, ◌&&◌, not, if◌then◌else◌}
 use Rattle.std.specs.List.{filter, flat_map}
 use Rattle.std.specs.Option.{option_map, option_and_then, option_to_list}
-use Rattle.std.proofs.lemmas.List.{append-nil}
+use Rattle.std.proofs.lemmas.List.{append-nil, nil_from_length}
 use Rattle.std.proofs.lemmas.Bool.Decides.{nat_tests}
+use Rattle.plain_words.specs.declared.limits.TheConstants.{MOST_INCARNATIONS, MOST_SCHEDULES}
 use Rattle.sched_plain.specs.declared.row.Row.{Row}
 use Rattle.sched_plain.specs.declared.schedule.Schedule.{Schedule}
 use Rattle.sched_plain.specs.declared.step.Pair.{Pair}
@@ -16,13 +17,13 @@ use Rattle.sched_plain.specs.declared.work.Work.{Work}
 use Rattle.sched_plain.specs.declared.work.Work.TheVariants as works
 use Rattle.sched_plain.specs.declared.write.Write.TheVariants as writes
 use Rattle.sched_plain.specs.History.{History, beginning, ◌upon◌, grown}
-use Rattle.sched_plain.specs.Moments.{moment_of}
-use Rattle.sched_plain.specs.Lists.{nth, first_some, first_answer, or_else, when, some_pass, numbers, only_if, head}
+use Rattle.plain_words.specs.Moments.{moment_of}
+use Rattle.plain_words.specs.Lists.{nth, first_some, first_answer, or_else, when, some_pass, numbers, head}
 use Rattle.sched_plain.specs.Changes.{changes_of}
 use Rattle.sched_plain.specs.Rows.{living, rows_of, current_of}
 use Rattle.sched_plain.specs.Groups.{groups_of, row_fault, has_group, living_count}
 use Rattle.sched_plain.specs.Zones.{is_utc}
-use Rattle.sched_plain.specs.Ledger.{LedgerCall, ledger_of, Cancelled, ended_by}
+use Rattle.sched_plain.specs.Ledger.{ledger_of, ended_by}
 use Rattle.sched_plain.specs.Leases.{holder, is_taking}
 use Rattle.sched_plain.specs.Entries.{entries}
 use Rattle.sched_plain.specs.Seen.{seen}
@@ -35,14 +36,16 @@ use Rattle.book_core.specs.Form.{IsSound, is_first_content, is_at_expr}
 use Rattle.book_core.specs.State.{history_of}
 use Rattle.book_core.specs.Births.{Birth, births, row_of}
 use Rattle.book_core.specs.Questions.{pair_answer, pairs_answer, pairs_of, enter_answer, inc_answer, shard_answer, first_unentered}
-use Rattle.book_core.proofs.ListLemmas.{nth-map, nth-snoc}
+use Rattle.plain_words.proofs.Booleans.{second_fails}
+use Rattle.plain_words.proofs.Options.{map_none}
+use Rattle.plain_words.proofs.ListLemmas.{all_none, when_none, nth_map, nth_snoc}
+use Rattle.sched_plain.proofs.LedgerLemmas.{entries_cancelled, entries_lost}
 use Rattle.book_core.proofs.BirthLemmas.{AllFirst, sound_first, rows_births, length_births}
-use Rattle.book_core.proofs.RuleLemmas.{all_none, when_none, map_none}
 use Rattle.book_core.proofs.OpenLemmas.{unentered_open}
 
 -- a creation that is legal finds room among the incarnations
 room_left : (h : History) (at : ℕ) (group name : List ℕ) (token : Option (List ℕ)) (content : Schedule)
-    → rule (seen calendar h) (steps.Change (moment_of at) (writes.CreateSchedule group name token content)) ≡ None → nat_le 4294967295 (length (rows_of (changes_of h))) ≡ false
+    → rule (seen calendar h) (steps.Change (moment_of at) (writes.CreateSchedule group name token content)) ≡ None → nat_le MOST_INCARNATIONS (length (rows_of (changes_of h))) ≡ false
 room_left h at group name token content r =
     let v = seen calendar h in
     let write = writes.CreateSchedule group name token content in
@@ -52,22 +55,22 @@ room_left h at group name token content r =
     let parts = all_none (
     when (not (has_group (groups_of (changes_of h)) group)) faults.NoGroup
     ∷ when (is_some (living rows group name)) faults.Exists
-    ∷ when (nat_le 10000 (living_count rows)) (faults.TooMany (living_count rows))
-    ∷ when (nat_le 4294967295 (length rows)) (faults.TooMany (length rows))
+    ∷ when (nat_le MOST_SCHEDULES (living_count rows)) (faults.TooMany (living_count rows))
+    ∷ when (nat_le MOST_INCARNATIONS (length rows)) (faults.TooMany (length rows))
     ∷ []) fault in
-    when_none (nat_le 4294967295 (length rows)) (faults.TooMany (length rows)) parts.1.1.1.0
+    when_none (nat_le MOST_INCARNATIONS (length rows)) (faults.TooMany (length rows)) parts.1.1.1.0
 
 -- incarnations fit their numbers
-pub few_births : (h : History) → IsSound h → length (births h) ≤ 4294967295
+pub few_births : (h : History) → IsSound h → length (births h) ≤ MOST_INCARNATIONS
 few_births beginning p = omega arith
 few_births (steps.Boot at upon h) p = few_births h p.0
 few_births (steps.Zone at name bytes upon h) p = few_births h p.0
 few_births (steps.Change at (writes.CreateSchedule group name token content) upon h) p =
-    let free : nat_le 4294967295 (length (rows_of (changes_of h))) ≡ false = room_left h at.0 group name token content p.1.follows in
+    let free : nat_le MOST_INCARNATIONS (length (rows_of (changes_of h))) ≡ false = room_left h at.0 group name token content p.1.follows in
     let same : length (rows_of (changes_of h)) ≡ length (births h) = length_births h (sound_first h p.0) in
     let new : Birth = record { at = at.0; group = group; name = name; content = content } in
     let long : length (births h ++ new ∷ []) ≡ length (births h) + 1 = length-append (births h) (new ∷ []) in
-    let below : length (rows_of (changes_of h)) < 4294967295 = grind (arith, nat_tests) in
+    let below : length (rows_of (changes_of h)) < MOST_INCARNATIONS = grind (arith, nat_tests) in
     omega arith
 few_births (steps.Change at (writes.UpdateSchedule group name token content) upon h) p = cc p.1.form
 few_births (steps.Change at (writes.DeleteSchedule group name token) upon h) p = cc p.1.form
@@ -83,14 +86,6 @@ few_births (steps.Complete at inc upon h) p = few_births h p.0
 few_births (steps.Swept at shard upon h) p = few_births h p.0
 
 -- the entries of a history, step after step
-entries_cancelled : (incs : List ℕ) (calls : List LedgerCall) (inc : ℕ) → entries (map Cancelled incs ++ calls) inc ≡ entries calls inc
-entries_cancelled [] calls inc = refl
-entries_cancelled (x ∷ xs) calls inc = entries_cancelled xs calls inc
-
-entries_taken : (b : Bool) (call : LedgerCall) (calls : List LedgerCall) (inc : ℕ) → entries (call ∷ calls) inc ≡ entries calls inc → entries (only_if b call ++ calls) inc ≡ entries calls inc
-entries_taken true call calls inc e = e
-entries_taken false call calls inc e = refl
-
 entries_if : (b : Bool) (old pairs : List Pair) → (if b then old ++ pairs else old) ≡ old ++ (if b then pairs else [])
 entries_if true old pairs = refl
 entries_if false old pairs = sym (append-nil old)
@@ -100,7 +95,7 @@ entries_upon h (steps.Boot at) inc = sym (append-nil (entries (ledger_of h) inc)
 entries_upon h (steps.Zone at name bytes) inc = sym (append-nil (entries (ledger_of h) inc))
 entries_upon h (steps.Change at write) inc = entries_cancelled (ended_by (rows_of (changes_of h)) write) (ledger_of h) inc ∙ sym (append-nil (entries (ledger_of h) inc))
 entries_upon h (steps.Enter at of pairs) inc = entries_if (inc == of) (entries (ledger_of h) inc) pairs
-entries_upon h (steps.Lease at shard worker epoch until) inc = entries_taken (is_taking (holder h shard) epoch) _ (ledger_of h) inc refl ∙ sym (append-nil (entries (ledger_of h) inc))
+entries_upon h (steps.Lease at shard worker epoch until) inc = entries_lost (is_taking (holder h shard) epoch) (Some shard) at.0 (ledger_of h) inc ∙ sym (append-nil (entries (ledger_of h) inc))
 entries_upon h (steps.Release at shard worker epoch) inc = sym (append-nil (entries (ledger_of h) inc))
 entries_upon h (steps.Begin at of i number epoch) inc = sym (append-nil (entries (ledger_of h) inc))
 entries_upon h (steps.End at of i number verdict status) inc = sym (append-nil (entries (ledger_of h) inc))
@@ -126,10 +121,6 @@ or_assoc (Some x) whole b c e = refl
 pub first_append : {A B : Type 0} (question : A → Option B) (xs ys : List A) → first_answer question (xs ++ ys) ≡ or_else (first_answer question xs) (first_answer question ys)
 first_append question [] ys = refl
 first_append question (x ∷ xs) ys = or_assoc (question x) _ (first_answer question xs) (first_answer question ys) (first_append question xs ys)
-
-no_length : {A : Type 0} (xs : List A) → length xs ≡ 0 → xs ≡ []
-no_length [] e = refl
-no_length (x ∷ xs) e = absurd (omega arith)
 
 -- the next step of a list answers first
 steps_next : (question : Question) (h : History) (t inc : ℕ) (xs : List Step) (i : ℕ) (d : Step) → i < length xs
@@ -161,7 +152,7 @@ step_passed question t inc xs i x lt is found inv =
     ∙ sym (steps_next question h t inc xs i x lt) ∙ inv
 
 drop_all : (xs : List Step) (i : ℕ) → length xs ≤ i → drop i xs ≡ []
-drop_all xs i le = no_length (drop i xs) (let e : length (drop i xs) ≡ 0 = omega (arith, length-drop i xs) in e)
+drop_all xs i le = nil_from_length (drop i xs) (let e : length (drop i xs) ≡ 0 = omega (arith, length-drop i xs) in e)
 
 -- no step answered
 pub steps_ended : (question : Question) (t inc : ℕ) (xs : List Step) (i : ℕ) → length xs ≤ i
@@ -235,7 +226,7 @@ stays (steps.Boot at upon h) inc p = stays h inc p.0
 stays (steps.Zone at name bytes upon h) inc p = cc p.1
 stays (steps.Change at (writes.CreateSchedule group name token content) upon h) inc p =
     let new : Birth = record { at = at.0; group = group; name = name; content = content } in
-    ap (some_pass (λ (b : Birth). b.content.delete_after)) (nth-snoc (births h) new inc)
+    ap (some_pass (λ (b : Birth). b.content.delete_after)) (nth_snoc (births h) new inc)
     ∙ stays_if (inc == length (births h) + 1) new (nth (births h) inc) (stays_first (is_none token) content p.1) (stays h inc p.0)
 stays (steps.Change at (writes.UpdateSchedule group name token content) upon h) inc p = cc p.1
 stays (steps.Change at (writes.DeleteSchedule group name token) upon h) inc p = cc p.1
@@ -250,21 +241,16 @@ stays (steps.Close at of instant reason upon h) inc p = stays h inc p.0
 stays (steps.Complete at of upon h) inc p = cc p.1
 stays (steps.Swept at shard upon h) inc p = stays h inc p.0
 
-stuck_false : (a d x y z : Bool) → d ≡ false → (a && d && x && y && z) ≡ false
-stuck_false true true x y z e = cc e
-stuck_false true false x y z e = refl
-stuck_false false d x y z e = refl
-
 -- so none is completable
 unfinished : (h : History) (inc t : ℕ) (o : Option Birth) → some_pass (λ (b : Birth). b.content.delete_after) o ≡ false
     → some_pass (is_finished (seen calendar h) inc t) (option_and_then current_of (option_map row_of o)) ≡ false
 unfinished h inc t None e = refl
-unfinished h inc t (Some b) e = stuck_false b.content.enabled b.content.delete_after _ _ _ e
+unfinished h inc t (Some b) e = second_fails b.content.enabled b.content.delete_after _ _ _ e
 
 not_completable : (h : History) (inc t : ℕ) → AllFirst h → completable (seen calendar h) inc t ≡ false
 not_completable h inc t p =
     ap (λ (rows : List Row). some_pass (is_finished (seen calendar h) inc t) (option_and_then current_of (nth rows inc))) (rows_births h p)
-    ∙ ap (λ (row : Option Row). some_pass (is_finished (seen calendar h) inc t) (option_and_then current_of row)) (nth-map row_of (births h) inc)
+    ∙ ap (λ (row : Option Row). some_pass (is_finished (seen calendar h) inc t) (option_and_then current_of row)) (nth_map row_of (births h) inc)
     ∙ unfinished h inc t (nth (births h) inc) (stays h inc p)
 
 none_complete : (h : History) (t : ℕ) (incs : List ℕ) → AllFirst h → first_answer (λ inc. when (completable (seen calendar h) inc t) (works.Complete inc)) incs ≡ None

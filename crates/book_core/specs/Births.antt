@@ -7,9 +7,9 @@ use Rattle.sched_plain.specs.declared.step.Step.TheVariants as steps
 use Rattle.sched_plain.specs.declared.write.Write.{Write}
 use Rattle.sched_plain.specs.declared.write.Write.TheVariants as writes
 use Rattle.sched_plain.specs.History.{History, beginning, ◌upon◌}
-use Rattle.sched_plain.specs.Ids.{shard_of}
-use Rattle.sched_plain.specs.Moments.{moment_of}
-use Rattle.sched_plain.specs.Lists.{nth}
+use Rattle.plain_words.specs.Ids.{shard_of}
+use Rattle.plain_words.specs.Moments.{moment_of}
+use Rattle.plain_words.specs.Lists.{nth}
 use Rattle.sched_plain.specs.Rows.{revision_from}
 use Rattle.sched_plain.specs.Items.{Item, opened}
 use Rattle.sched_plain.specs.Leases.{holder}

@@ -2,6 +2,7 @@
 use Rattle.std.specs.Prelude.{ℕ, nat_le, Bool, false, not, ◌&&◌, if◌then◌else◌, Option, Some, None, List, [], ◌∷◌, length}
 use Rattle.std.specs.List.{list_any}
 use Rattle.std.specs.Option.{option_map}
+use Rattle.plain_words.specs.declared.limits.TheConstants.{MOST_SCHEDULES}
 use Rattle.sched_plain.specs.declared.step.Pair.{Pair}
 use Rattle.sched_plain.specs.declared.step.Step.{Step}
 use Rattle.sched_plain.specs.declared.step.Step.TheVariants as steps
@@ -28,11 +29,12 @@ abbrev pub births_of : Step → List Birth
 births_of (steps.Change at write) = births_by at.0 write
 births_of s = []
 
--- the step creates a schedule of this group and name
+-- the write creates a schedule of this group and name
 abbrev pub writes_name : List ℕ → List ℕ → Write → Bool
 writes_name group name (writes.CreateSchedule of called token content) = same_text group of && same_text name called
 writes_name group name write = false
 
+-- the step creates a schedule of this group and name
 abbrev pub creates : List ℕ → List ℕ → Step → Bool
 creates group name (steps.Change at write) = writes_name group name write
 creates group name s = false
@@ -41,7 +43,7 @@ creates group name s = false
 abbrev pub creation_fault : Bool → Bool → ℕ → Option RowFault
 creation_fault default taken count =
     if not default then Some faults.NoGroup
-    else (if taken then Some faults.Exists else (if nat_le 10000 count then Some (faults.TooMany count) else None))
+    else (if taken then Some faults.Exists else (if nat_le MOST_SCHEDULES count then Some (faults.TooMany count) else None))
 
 -- the first pair whose chosen moment is outside the window at its instant
 abbrev pub outside_seen : Option Origin → List Pair → Option ℕ

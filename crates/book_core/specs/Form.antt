@@ -1,8 +1,8 @@
 -- The first forms of step: those of a history in which schedules with an `at` in UTC are created, without a client
 -- token, and stay.
 use Rattle.std.specs.Prelude.{◌≡◌, Bool, true, false, not, ◌&&◌, is_none}
-use Rattle.sched_plain.specs.declared.expression.Expr.{Expr}
-use Rattle.sched_plain.specs.declared.expression.Expr.TheVariants as exprs
+use Rattle.expressions.specs.declared.expression.Expr.{Expr}
+use Rattle.expressions.specs.declared.expression.Expr.TheVariants as exprs
 use Rattle.sched_plain.specs.declared.schedule.Schedule.{Schedule}
 use Rattle.sched_plain.specs.declared.step.Step.{Step}
 use Rattle.sched_plain.specs.declared.step.Step.TheVariants as steps
@@ -14,6 +14,7 @@ use Rattle.sched_plain.specs.Zones.{is_utc}
 use Rattle.sched_plain.specs.Legal.{MayFollow}
 use Rattle.book_core.specs.InUse.{calendar}
 
+-- an expression that is an `at`
 abbrev pub is_at_expr : Expr → Bool
 is_at_expr (exprs.At civil) = true
 is_at_expr expr = false
@@ -34,6 +35,7 @@ is_first_form (steps.Change at write) = is_first_write write
 is_first_form (steps.Complete at inc) = false
 is_first_form s = true
 
+-- the step is of the first forms
 abbrev pub IsFirstForm : Step → Type 0
 IsFirstForm s = is_first_form s ≡ true
 

@@ -7,7 +7,7 @@ use Rattle.sched_plain.specs.declared.step.Step.{Step}
 use Rattle.sched_plain.specs.declared.step.Step.TheVariants as steps
 use Rattle.sched_plain.specs.declared.write.Write.{Write}
 use Rattle.sched_plain.specs.declared.write.Write.TheVariants as writes
-use Rattle.sched_plain.specs.Lists.{only_if}
+use Rattle.plain_words.specs.Lists.{only_if}
 use Rattle.book_core.specs.Births.{Birth, origin_of}
 use Rattle.book_core.specs.Track.{covers_from}
 
@@ -33,21 +33,23 @@ creations all = flat_map creation_in all
 abbrev pub content_of : ℕ → Birth → Option Schedule
 content_of instant b = if covers_from (origin_of b) instant then Some b.content else None
 
--- the content that a step gives at an instant, if it creates a schedule
+-- the content that a write gives at an instant, if it creates a schedule
 abbrev pub content_made : ℕ → ℕ → Write → Option Schedule
 content_made instant at (writes.CreateSchedule group name token content) =
     content_of instant (record { at = at; group = group; name = name; content = content })
 content_made instant at write = None
 
+-- the content that a step gives at an instant, if it creates a schedule
 abbrev pub content_in : ℕ → Step → Option Schedule
 content_in instant (steps.Change at write) = content_made instant at.0 write
 content_in instant s = None
 
--- group and name that a step creates a schedule under
+-- group and name that a write creates a schedule under
 abbrev pub names_made : Write → Option (List ℕ × List ℕ)
 names_made (writes.CreateSchedule group name token content) = Some (group, name)
 names_made write = None
 
+-- group and name that a step creates a schedule under
 abbrev pub names_in : Step → Option (List ℕ × List ℕ)
 names_in (steps.Change at write) = names_made write
 names_in s = None

@@ -8,7 +8,7 @@ use Rattle.sched_plain.specs.declared.step.Step.TheVariants as steps
 use Rattle.sched_plain.specs.declared.work.Work.{Work}
 use Rattle.sched_plain.specs.declared.work.Work.TheVariants as works
 use Rattle.sched_plain.specs.History.{History}
-use Rattle.sched_plain.specs.Lists.{nth, first_answer}
+use Rattle.plain_words.specs.Lists.{nth, first_answer}
 use Rattle.sched_plain.specs.Ledger.{ledger_of}
 use Rattle.sched_plain.specs.Entries.{filed, entries}
 use Rattle.sched_plain.specs.Work.{act_of, live_of, of_shard}

@@ -3,8 +3,6 @@ use Rattle.std.specs.Prelude.{◌≡◌, ℕ, ◌+◌, ◌≤◌, ◌==◌, ◌&
 use Rattle.sched_plain.specs.declared.step.Step.{Step}
 use Rattle.sched_plain.specs.declared.step.Step.TheVariants as steps
 use Rattle.sched_plain.specs.History.{History, beginning, ◌upon◌, grown}
-use Rattle.sched_plain.specs.Legal.{MayFollow}
-use Rattle.book_core.specs.InUse.{calendar}
 
 -- the history of these steps
 abbrev pub history_of : List Step → History
@@ -37,10 +35,6 @@ pub record State : Type 0 where
 -- the book stands for the history of its steps
 abbrev pub Stands : State → History → Type 0
 Stands b h = history_of b.steps ≡ h
-
--- the step may follow its history
-abbrev pub Allows : State → Step → Type 0
-Allows b s = MayFollow calendar (history_of b.steps) s
 
 -- room for the step, and for the End of each attempt that has none behind it
 abbrev pub HasRoom : State → Step → Type 0

@@ -32,7 +32,7 @@ impl Model for Book {
 impl Book {
     ghost use Rattle.book_core.specs.State.{Stands};
 
-    /// The book of the empty history.
+    /// The book of the empty history. It takes no memory yet.
     pub fn new(alloc: Global) -> Result<Book, AllocError>
         ensures { IfOk result (λ book. Stands book beginning) }
     {
@@ -42,6 +42,7 @@ impl Book {
     }
 }
 
+/// Adds a step at the end, where there is room for it.
 fn put_last(steps: &mut Vec<Step>, step: Step)
     requires { vec_len steps.old < vec_capacity steps.old }
     ensures steps { steps.new.items ≡ steps.old.items ++ step ∷ [] }
@@ -50,6 +51,7 @@ fn put_last(steps: &mut Vec<Step>, step: Step)
     let _ = steps.push(step);
 }
 
+/// The instant as a list of its own.
 fn collected(alloc: Global, instant: Option<u64>) -> Result<Vec<u64>, AllocError>
     ensures { IfOk result (λ instants. instants.items ≡ option_to_list instant) }
 {

@@ -1,6 +1,6 @@
 ghost use Rattle.std.specs.Prelude.{◌≡◌, ℕ, List};
 ghost use Rattle.std.specs.Option.{option_copied, option_map, option_and_then};
-ghost use Rattle.sched_plain.specs.Lists.{nth};
+ghost use Rattle.plain_words.specs.Lists.{nth};
 ghost use Rattle.book_core.specs.Made.{is_creating, is_creation, creations, content_made, content_in, content_of, names_made, names_in};
 ghost use Rattle.book_core.specs.Track.{covers_from};
 

@@ -1,11 +1,20 @@
 ghost use Rattle.std.specs.Prelude.{◌≡◌, ◌≤◌, pos, true};
 ghost use Rattle.std.specs.Int.{IsInRange};
 ghost use Rattle.jiff_core.specs.Calendar as Days;
-ghost use Rattle.sched_plain.specs.Expressions.{is_civil, civil_second, second_of_day, day_number};
+ghost use Rattle.expressions.specs.CivilSeconds.{is_civil, civil_second, second_of_day, day_number};
 ghost use Rattle.book_core.specs.Open.{instant_of};
 
 use jiff_core::civil::{Date, days_in_month};
 use sched_plain::{Civil, Expr};
+
+/// The first year of a civil second.
+const FIRST_YEAR: u16 = 1970;
+
+/// The last year of a civil second.
+const LAST_YEAR: u16 = 2199;
+
+/// No day of the library's calendar is farther from 1970 than so many days.
+const FARTHEST_DAY: u64 = 4_371_587;
 
 const SECONDS_OF_DAY: u64 = 86_400;
 
@@ -27,8 +36,8 @@ pub fn instant_of(expr: &Expr) -> Option<u64>
 fn is_civil(c: Civil) -> bool
     ensures { result ≡ is_civil c }
 {
-    1970 <= c.year
-        && c.year <= 2199
+    FIRST_YEAR <= c.year
+        && c.year <= LAST_YEAR
         && 1 <= c.month
         && c.month <= 12
         && 1 <= c.day
@@ -39,7 +48,7 @@ fn is_civil(c: Civil) -> bool
 }
 
 fn month_length(year: u16, month: u8) -> u8
-    requires { year ≤ 2199 }
+    requires { year ≤ LAST_YEAR }
     ensures { result ≡ Days.days_in_month (pos year) month }
 {
     days_in_month(year as i16, month)
@@ -59,11 +68,11 @@ fn second_of_day(c: Civil) -> u64
 }
 
 fn day_number(year: u16, month: u8, day: u8) -> u64
-    requires year { year ≤ 2199 }
+    requires year { year ≤ LAST_YEAR }
     requires month { IsInRange 1 12 month }
     requires day { IsInRange 1 (Days.days_in_month (pos year) month) day }
     ensures value { result ≡ day_number year month day }
-    ensures bound { result ≤ 4_371_587 }
+    ensures bound { result ≤ FARTHEST_DAY }
 {
     let date = Date {
         year: year as i16,

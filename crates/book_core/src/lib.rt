@@ -18,6 +18,3 @@ mod work;
 pub use book::Book;
 pub use form::is_first_form;
 pub use machine::{LegalFault, Machine};
-
-#[cfg(test)]
-mod tests;

@@ -1,8 +1,8 @@
-ghost use Rattle.std.specs.Prelude.{◌≡◌, ◌≤◌, ◌+◌, ◌*◌, None, if◌then◌else◌, length, drop, [], not, true};
+ghost use Rattle.std.specs.Prelude.{◌≡◌, ◌<◌, ◌≤◌, ◌+◌, ◌*◌, None, if◌then◌else◌, length, drop, [], not, true};
 ghost use Rattle.std.specs.Option.{option_to_list, option_map};
 ghost use Rattle.sched_plain.specs.Moments.{moment, at_of};
-ghost use Rattle.sched_plain.specs.Lists.{first_some, nth};
-ghost use Rattle.sched_plain.specs.Ids.{shard_of};
+ghost use Rattle.plain_words.specs.Lists.{first_some, nth};
+ghost use Rattle.plain_words.specs.Ids.{shard_of};
 ghost use Rattle.sched_plain.specs.Changes.{changes_of};
 ghost use Rattle.sched_plain.specs.Rows.{rows_of, content_at};
 ghost use Rattle.sched_plain.specs.Ledger.{ledger_of};
@@ -20,14 +20,19 @@ ghost use Rattle.book_core.specs.Form.{IsFirstForm, IsSound, is_first_write};
 ghost use Rattle.book_core.specs.State.{history_of};
 ghost use Rattle.book_core.specs.Births.{births, origin_of};
 ghost use Rattle.book_core.specs.Small.{IsSmallFiled, IsSmallOrigin, SmallFiled};
+ghost use Rattle.std.specs.List.{list_any};
+ghost use Rattle.sched_plain.specs.Rows.{same_text};
+ghost use Rattle.sched_plain.specs.Groups.{default_name};
+ghost use Rattle.book_core.specs.Creations.{creates, writes_name, creation_fault, outside_seen, write_why};
+ghost use Rattle.book_core.specs.Track.{window_seen};
 
 use crate::scan::{created, filed_at, first_unentered, holder_at, origin_at, shard_holder};
 use crate::standing::standing;
 use crate::track::Origin;
 use crate::work::next_work;
 use sched_plain::{
-    Filed, Holder, MOST_SCHEDULES, Moment, Name, Pair, Pairs, Reason, RowFault, Standing, Step,
-    Why, Work, Write,
+    Filed, Holder, Last, MOST_SCHEDULES, Moment, Name, Pair, Pairs, Reason, RowFault, SHARDS,
+    Standing, Step, Why, Work, Write,
 };
 
 /// The moment that a step carries.
@@ -91,7 +96,7 @@ fn is_taking(held: Holder, epoch: u64) -> bool
     epoch > held.epoch && epoch - held.epoch == 1
 }
 
-fn lease_broken(held: Holder, at: u64, worker: u32, epoch: u64) -> Option<Why>
+fn lease_why(held: Holder, at: u64, worker: u32, epoch: u64) -> Option<Why>
     ensures { result ≡ first_some (lease_table held at worker epoch) }
 {
     if is_taking(held, epoch) && is_held(held, at, worker) {
@@ -106,7 +111,7 @@ fn lease_broken(held: Holder, at: u64, worker: u32, epoch: u64) -> Option<Why>
     None
 }
 
-fn release_broken(held: Holder, worker: u32, epoch: u64) -> Option<Why>
+fn release_why(held: Holder, worker: u32, epoch: u64) -> Option<Why>
     ensures { result ≡ first_some (release_table held worker epoch) }
 {
     if is_taker(held, worker, epoch) {
@@ -125,7 +130,7 @@ fn unless_due(standing: Standing) -> Option<Why>
     }
 }
 
-fn begin_broken(
+fn begin_why(
     held: Holder,
     filed: Option<Filed>,
     at: u64,
@@ -154,7 +159,7 @@ fn begin_broken(
     None
 }
 
-fn end_broken(filed: Option<Filed>, number: u16) -> Option<Why>
+fn end_why(filed: Option<Filed>, number: u16) -> Option<Why>
     ensures { result ≡ first_some (end_table filed number) }
 {
     if is_live_attempt(filed, number) {
@@ -168,8 +173,7 @@ fn is_live_attempt(filed: Option<Filed>, number: u16) -> bool
     ensures { result ≡ is_live_attempt filed number }
 {
     match filed {
-        Some(filed) => number == filed.entry.used
-            && matches!(filed.entry.last, sched_plain::Last::Live { .. }),
+        Some(filed) => number == filed.entry.used && matches!(filed.entry.last, Last::Live { .. }),
         None => false,
     }
 }
@@ -196,13 +200,7 @@ fn unless_exhausted(reason: Reason, standing: Standing) -> Option<Why>
     }
 }
 
-fn close_broken(
-    filed: Option<Filed>,
-    at: u64,
-    inc: u32,
-    instant: u64,
-    reason: Reason,
-) -> Option<Why>
+fn close_why(filed: Option<Filed>, at: u64, inc: u32, instant: u64, reason: Reason) -> Option<Why>
     requires { IsSmallFiled filed }
     ensures { result ≡ first_some (close_table filed at inc instant reason) }
 {
@@ -220,12 +218,6 @@ fn unless_settled(work: Work) -> Option<Why>
         _ => Some(Why::Work(work)),
     }
 }
-
-ghost use Rattle.std.specs.List.{list_any};
-ghost use Rattle.sched_plain.specs.Rows.{same_text};
-ghost use Rattle.sched_plain.specs.Groups.{default_name};
-ghost use Rattle.book_core.specs.Creations.{creates, writes_name, creation_fault, outside_seen, write_why};
-ghost use Rattle.book_core.specs.Track.{window_seen};
 
 fn creates(step: &Step, group: &Name, name: &Name) -> bool
     ensures { result ≡ creates group.now name.now step.now }
@@ -270,22 +262,6 @@ fn is_taken(steps: &[Step], group: &Name, name: &Name) -> bool
         }
     }
     false
-}
-
-fn creation_fault(is_default: bool, is_taken: bool, count: u64) -> Option<RowFault>
-    ensures { result ≡ creation_fault is_default is_taken count }
-{
-    if !is_default {
-        return Some(RowFault::NoGroup);
-    }
-    if is_taken {
-        return Some(RowFault::Exists);
-    }
-    if count >= MOST_SCHEDULES {
-        Some(RowFault::TooMany { count })
-    } else {
-        None
-    }
 }
 
 fn first_astray(pairs: &[Pair], wanted: Option<u64>) -> Option<u64>
@@ -351,13 +327,17 @@ fn creation_broken(steps: &[Step], group: &Name, name: &Name) -> Option<Why>
     requires { IsSound (history_of steps.now) }
     ensures { result ≡ option_map Why.Row (creation_fault (same_text group.now default_name) (list_any (creates group.now name.now) steps.now) (length (births (history_of steps.now)))) }
 {
-    match creation_fault(
-        is_default(group),
-        is_taken(steps, group, name),
-        created(steps),
-    ) {
-        Some(fault) => Some(Why::Row(fault)),
-        None => None,
+    if !is_default(group) {
+        return Some(Why::Row(RowFault::NoGroup));
+    }
+    if is_taken(steps, group, name) {
+        return Some(Why::Row(RowFault::Exists));
+    }
+    let count = created(steps);
+    if count >= MOST_SCHEDULES {
+        Some(Why::Row(RowFault::TooMany { count }))
+    } else {
+        None
     }
 }
 
@@ -403,6 +383,66 @@ fn enter_broken(steps: &[Step], at: Moment, inc: u32, pairs: &Pairs) -> Option<W
     )
 }
 
+fn lease_broken(steps: &[Step], at: Moment, shard: u8, worker: u32, epoch: u64) -> Option<Why>
+    requires sound { IsSound (history_of steps.now) }
+    requires shard { shard < SHARDS }
+    ensures { result ≡ first_some (lease_table (holder (history_of steps.now) shard) at.0 worker epoch) }
+{
+    lease_why(shard_holder(steps, shard), at.0, worker, epoch)
+}
+
+fn release_broken(steps: &[Step], shard: u8, worker: u32, epoch: u64) -> Option<Why>
+    requires sound { IsSound (history_of steps.now) }
+    requires shard { shard < SHARDS }
+    ensures { result ≡ first_some (release_table (holder (history_of steps.now) shard) worker epoch) }
+{
+    release_why(shard_holder(steps, shard), worker, epoch)
+}
+
+fn begin_broken(
+    steps: &[Step],
+    at: Moment,
+    inc: u32,
+    instant: u64,
+    number: u16,
+    epoch: u64,
+) -> Option<Why>
+    requires { IsSound (history_of steps.now) }
+    ensures { result ≡ first_some (kind_table (seen calendar (history_of steps.now)) (Step.Begin at inc instant number epoch)) }
+{
+    let filed = filed_at(steps, inc, instant);
+    begin_why(
+        holder_at(steps, inc),
+        filed,
+        at.0,
+        inc,
+        instant,
+        number,
+        epoch,
+    )
+}
+
+fn end_broken(steps: &[Step], inc: u32, instant: u64, number: u16) -> Option<Why>
+    requires { IsSound (history_of steps.now) }
+    ensures { result ≡ first_some (end_table (filed (ledger_of (history_of steps.now)) inc instant) number) }
+{
+    end_why(filed_at(steps, inc, instant), number)
+}
+
+fn close_broken(steps: &[Step], at: Moment, inc: u32, instant: u64, reason: Reason) -> Option<Why>
+    requires { IsSound (history_of steps.now) }
+    ensures { result ≡ first_some (kind_table (seen calendar (history_of steps.now)) (Step.Close at inc instant reason)) }
+{
+    close_why(filed_at(steps, inc, instant), at.0, inc, instant, reason)
+}
+
+fn swept_broken(steps: &[Step], at: Moment, shard: u8) -> Option<Why>
+    requires { IsSound (history_of steps.now) }
+    ensures { result ≡ first_some (kind_table (seen calendar (history_of steps.now)) (Step.Swept at shard)) }
+{
+    unless_settled(next_work(steps, shard, at.0))
+}
+
 fn kind_broken(steps: &[Step], step: &Step) -> Option<Why>
     requires sound { IsSound (history_of steps.now) }
     requires valid { IsValid step.now }
@@ -418,49 +458,33 @@ fn kind_broken(steps: &[Step], step: &Step) -> Option<Why>
             worker,
             epoch,
             ..
-        } => lease_broken(shard_holder(steps, *shard), at.0, *worker, *epoch),
+        } => lease_broken(steps, *at, *shard, *worker, *epoch),
         Step::Release {
             shard,
             worker,
             epoch,
             ..
-        } => release_broken(shard_holder(steps, *shard), *worker, *epoch),
+        } => release_broken(steps, *shard, *worker, *epoch),
         Step::Begin {
             at,
             inc,
             instant,
             number,
             epoch,
-        } => {
-            begin_broken(
-                holder_at(steps, *inc),
-                filed_at(steps, *inc, *instant),
-                at.0,
-                *inc,
-                *instant,
-                *number,
-                *epoch,
-            )
-        }
+        } => begin_broken(steps, *at, *inc, *instant, *number, *epoch),
         Step::End {
             inc,
             instant,
             number,
             ..
-        } => end_broken(filed_at(steps, *inc, *instant), *number),
+        } => end_broken(steps, *inc, *instant, *number),
         Step::Close {
             at,
             inc,
             instant,
             reason,
-        } => close_broken(
-            filed_at(steps, *inc, *instant),
-            at.0,
-            *inc,
-            *instant,
-            *reason,
-        ),
-        Step::Swept { at, shard } => unless_settled(next_work(steps, *shard, at.0)),
+        } => close_broken(steps, *at, *inc, *instant, *reason),
+        Step::Swept { at, shard } => swept_broken(steps, *at, *shard),
         Step::Boot { .. } | Step::Zone { .. } | Step::Complete { .. } => None,
     }
 }

@@ -1,7 +1,7 @@
-ghost use Rattle.std.specs.Prelude.{◌≡◌, ◌≤◌, length};
+ghost use Rattle.std.specs.Prelude.{◌≡◌, ◌<◌, ◌≤◌, length};
 ghost use Rattle.std.specs.Option.{option_map, option_and_then};
-ghost use Rattle.sched_plain.specs.Ids.{shard_of};
-ghost use Rattle.sched_plain.specs.Lists.{nth};
+ghost use Rattle.plain_words.specs.Ids.{shard_of};
+ghost use Rattle.plain_words.specs.Lists.{nth};
 ghost use Rattle.sched_plain.specs.Ledger.{ledger_of};
 ghost use Rattle.sched_plain.specs.Leases.{holder};
 ghost use Rattle.sched_plain.specs.Entries.{filed};
@@ -14,7 +14,7 @@ ghost use Rattle.book_core.specs.Questions.{first_unentered};
 
 use crate::instants::instant_of;
 use crate::track::{Origin, Track};
-use sched_plain::{Filed, Holder, Step};
+use sched_plain::{Filed, Holder, MOST_INCARNATIONS, SHARDS, Step};
 
 /// What the steps say of the occurrence of an incarnation at an instant.
 pub fn tracked(steps: &[Step], inc: u32, instant: u64) -> Track
@@ -32,7 +32,7 @@ pub fn tracked(steps: &[Step], inc: u32, instant: u64) -> Track
 pub fn created(steps: &[Step]) -> u64
     requires { IsSound (history_of steps.now) }
     ensures value { result ≡ length (births (history_of steps.now)) }
-    ensures few { result ≤ 4294967295 }
+    ensures few { result ≤ MOST_INCARNATIONS }
 {
     tracked(steps, 0, 0).created
 }
@@ -57,7 +57,7 @@ pub fn holder_at(steps: &[Step], inc: u32) -> Holder
 /// Who holds a shard, of the eight.
 pub fn shard_holder(steps: &[Step], shard: u8) -> Holder
     requires sound { IsSound (history_of steps.now) }
-    requires shard { shard ≤ 7 }
+    requires shard { shard < SHARDS }
     ensures { result ≡ holder (history_of steps.now) shard }
 {
     holder_at(steps, shard as u32)

@@ -2,15 +2,21 @@ ghost use Rattle.std.specs.Prelude.{◌≡◌, ◌≤◌};
 ghost use Rattle.sched_plain.specs.Standing.{delay, earliest, is_past_age, is_used_up, standing};
 ghost use Rattle.book_core.specs.Small.{last_at};
 
-use sched_plain::{Entry, Filed, Last, Policy, Reason, Standing};
+use sched_plain::{Entry, Filed, LAST_MOMENT, LONGEST_WINDOW, Last, Policy, Reason, Standing};
+
+/// The latest moment that a window can choose, in seconds since 1970 UTC: the longest window behind the last moment.
+const LAST_CHOSEN: u64 = LAST_MOMENT + 60 * LONGEST_WINDOW as u64 - 1;
 
 /// The longest wait between two attempts, in seconds.
 const LONGEST_DELAY: u64 = 900;
 
+/// The last attempt after which the wait is twice the one before: 512 seconds.
+const LAST_DOUBLED: u16 = 10;
+
 /// Where the entry stands at a moment.
 pub fn standing(filed: &Filed, now: u64) -> Standing
-    requires chosen { filed.now.entry.chosen ≤ 7258204798 }
-    requires last { last_at filed.now.entry.last ≤ 7258118399 }
+    requires chosen { filed.now.entry.chosen ≤ LAST_CHOSEN }
+    requires last { last_at filed.now.entry.last ≤ LAST_MOMENT }
     ensures { result ≡ standing filed.now.entry filed.now.policy now }
 {
     let entry = filed.entry;
@@ -41,8 +47,8 @@ fn is_used_up(entry: Entry, policy: Policy) -> bool
 }
 
 fn is_past_age(entry: Entry, policy: Policy, now: u64) -> bool
-    requires chosen { entry.chosen ≤ 7258204798 }
-    requires last { last_at entry.last ≤ 7258118399 }
+    requires chosen { entry.chosen ≤ LAST_CHOSEN }
+    requires last { last_at entry.last ≤ LAST_MOMENT }
     ensures { result ≡ is_past_age entry policy now }
 {
     let last_moment = entry.chosen + policy.age as u64;
@@ -50,7 +56,7 @@ fn is_past_age(entry: Entry, policy: Policy, now: u64) -> bool
 }
 
 fn earliest(entry: Entry) -> u64
-    requires { last_at entry.last ≤ 7258118399 }
+    requires { last_at entry.last ≤ LAST_MOMENT }
     ensures { result ≡ earliest entry }
 {
     match entry.last {
@@ -61,9 +67,9 @@ fn earliest(entry: Entry) -> u64
 
 fn delay(number: u16) -> u64
     ensures value { result ≡ delay number }
-    ensures bound { result ≤ 900 }
+    ensures bound { result ≤ LONGEST_DELAY }
 {
-    if number > 10 {
+    if number > LAST_DOUBLED {
         return LONGEST_DELAY;
     }
     let doubled: u64 = 1 << (number.saturating_sub(1));

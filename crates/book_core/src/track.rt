@@ -1,5 +1,5 @@
-ghost use Rattle.std.specs.Prelude.{◌≡◌, ◌<◌, ◌≤◌, ◌-◌, ◌^◌};
-ghost use Rattle.sched_plain.specs.Lists.{or_else, head};
+ghost use Rattle.std.specs.Prelude.{◌≡◌, ◌<◌, ◌≤◌, ◌-◌, ◌^◌, true};
+ghost use Rattle.plain_words.specs.Lists.{or_else, head};
 ghost use Rattle.sched_plain.specs.Leases.{freed, leased, is_taking};
 ghost use Rattle.sched_plain.specs.Entries.{with_begin, with_end, with_loss, decided_as, outcome_of, filed_by, changed_if};
 
@@ -30,7 +30,7 @@ pub struct Track {
 }
 
 impl Track {
-    ghost use Rattle.book_core.specs.Track.{IsFew, track_after, after_write, after_creation, after_enter, after_lease, policy_entered, origin_from};
+    ghost use Rattle.book_core.specs.Track.{IsFew, track_after, after_tenure, after_edit, after_write, after_creation, after_enter, after_lease, policy_entered, origin_from};
     ghost use Rattle.sched_plain.specs.Leases.{untaken};
     ghost use Rattle.std.specs.Prelude.{None};
 
@@ -57,17 +57,34 @@ impl Track {
         ensures { result ≡ track_after inc instant step.now self }
     {
         match step {
+            Step::Change { at, write } => self.after_write(write, at.0, inc),
+            Step::Enter { inc: of, pairs, .. } => {
+                if inc == *of {
+                    self.after_enter(pairs.as_slice(), instant)
+                } else {
+                    self
+                }
+            }
+            Step::Boot { .. } | Step::Lease { .. } | Step::Release { .. } => {
+                self.after_tenure(step, inc)
+            }
+            Step::Begin { .. } | Step::End { .. } | Step::Close { .. } => {
+                self.after_edit(step, inc, instant)
+            }
+            Step::Zone { .. } | Step::Complete { .. } | Step::Swept { .. } => self,
+        }
+    }
+
+    /// After a step that says who holds a shard; any other leaves it.
+    fn after_tenure(self, step: &Step, inc: u32) -> Track
+        ensures { result ≡ after_tenure inc step.now self }
+    {
+        match step {
             Step::Boot { at } => Track {
                 held: freed(self.held),
-                filed: lost_if(true, self.filed, at.0),
+                filed: lost(self.filed, at.0),
                 ..self
             },
-            Step::Change { at, write } => self.after_write(write, at.0, inc),
-            Step::Enter { inc: of, pairs, .. } => self.after_enter(
-                pairs.as_slice(),
-                *of == inc,
-                instant,
-            ),
             Step::Lease {
                 at,
                 shard,
@@ -91,15 +108,26 @@ impl Track {
                     self
                 }
             }
+            _ => self,
+        }
+    }
+
+    /// After a step that edits an entry; any other leaves it.
+    fn after_edit(self, step: &Step, inc: u32, instant: u64) -> Track
+        requires { IsFew self.filed }
+        ensures { result ≡ after_edit inc instant step.now self }
+    {
+        match step {
             Step::Begin {
                 at,
                 inc: of,
                 instant: i,
                 ..
             } => {
-                Track {
-                    filed: begun_if(inc == *of && instant == *i, self.filed, at.0),
-                    ..self
+                if inc == *of && instant == *i {
+                    self.with_filed(begun(self.filed, at.0))
+                } else {
+                    self
                 }
             }
             Step::End {
@@ -109,9 +137,10 @@ impl Track {
                 verdict,
                 ..
             } => {
-                Track {
-                    filed: ended_if(inc == *of && instant == *i, self.filed, *verdict, at.0),
-                    ..self
+                if inc == *of && instant == *i {
+                    self.with_filed(ended(self.filed, *verdict, at.0))
+                } else {
+                    self
                 }
             }
             Step::Close {
@@ -120,13 +149,20 @@ impl Track {
                 reason,
                 ..
             } => {
-                Track {
-                    filed: closed_if(inc == *of && instant == *i, self.filed, *reason),
-                    ..self
+                if inc == *of && instant == *i {
+                    self.with_filed(closed(self.filed, *reason))
+                } else {
+                    self
                 }
             }
-            Step::Zone { .. } | Step::Complete { .. } | Step::Swept { .. } => self,
+            _ => self,
         }
+    }
+
+    fn with_filed(self, filed: Option<Filed>) -> Track
+        ensures { result ≡ record self { filed = filed } }
+    {
+        Track { filed, ..self }
     }
 
     fn after_write(self, write: &Write, at: u64, inc: u32) -> Track
@@ -156,28 +192,25 @@ impl Track {
         }
     }
 
-    fn after_enter(self, pairs: &[Pair], is_its_own: bool, instant: u64) -> Track
-        ensures { result ≡ (if is_its_own then after_enter instant pairs.now self else self) }
+    fn after_enter(self, pairs: &[Pair], instant: u64) -> Track
+        ensures { result ≡ after_enter instant pairs.now self }
     {
-        if !is_its_own {
-            return self;
-        }
         let policy = policy_entered(self.origin, pairs);
-        Track {
-            filed: or_filed(self.filed, filed_by(policy, pairs, instant)),
-            ..self
-        }
+        self.with_filed(or_filed(self.filed, filed_by(policy, pairs, instant)))
     }
 
     fn after_lease(self, at: u64, worker: u32, epoch: u64, until: u64) -> Track
         ensures { result ≡ after_lease at worker epoch until self }
     {
-        let takes = is_taking(self.held, epoch);
-        Track {
-            held: leased(self.held, worker, epoch, until),
-            filed: lost_if(takes, self.filed, at),
-            ..self
+        let held = leased(self.held, worker, epoch, until);
+        if is_taking(self.held, epoch) {
+            return Track {
+                held,
+                filed: lost(self.filed, at),
+                ..self
+            };
         }
+        Track { held, ..self }
     }
 }
 
@@ -278,12 +311,9 @@ fn leased(held: Holder, worker: u32, epoch: u64, until: u64) -> Holder
     }
 }
 
-fn lost_if(lost: bool, filed: Option<Filed>, at: u64) -> Option<Filed>
-    ensures { result ≡ changed_if lost (with_loss at) filed }
+fn lost(filed: Option<Filed>, at: u64) -> Option<Filed>
+    ensures { result ≡ changed_if true (with_loss at) filed }
 {
-    if !lost {
-        return filed;
-    }
     match filed {
         Some(filed) => Some(Filed {
             entry: with_loss(filed.entry, at),
@@ -305,13 +335,10 @@ fn with_loss(entry: Entry, at: u64) -> Entry
     }
 }
 
-fn begun_if(begun: bool, filed: Option<Filed>, at: u64) -> Option<Filed>
+fn begun(filed: Option<Filed>, at: u64) -> Option<Filed>
     requires { IsFew filed }
-    ensures { result ≡ changed_if begun (with_begin at) filed }
+    ensures { result ≡ changed_if true (with_begin at) filed }
 {
-    if !begun {
-        return filed;
-    }
     match filed {
         Some(filed) => {
             let entry = Entry {
@@ -325,12 +352,9 @@ fn begun_if(begun: bool, filed: Option<Filed>, at: u64) -> Option<Filed>
     }
 }
 
-fn ended_if(ended: bool, filed: Option<Filed>, verdict: Verdict, at: u64) -> Option<Filed>
-    ensures { result ≡ changed_if ended (with_end verdict at) filed }
+fn ended(filed: Option<Filed>, verdict: Verdict, at: u64) -> Option<Filed>
+    ensures { result ≡ changed_if true (with_end verdict at) filed }
 {
-    if !ended {
-        return filed;
-    }
     match filed {
         Some(filed) => Some(Filed {
             entry: with_end(filed.entry, verdict, at),
@@ -366,12 +390,9 @@ fn decided_as(entry: Entry, outcome: Outcome) -> Entry
     }
 }
 
-fn closed_if(closed: bool, filed: Option<Filed>, reason: Reason) -> Option<Filed>
-    ensures { result ≡ changed_if closed (decided_as (outcome_of reason)) filed }
+fn closed(filed: Option<Filed>, reason: Reason) -> Option<Filed>
+    ensures { result ≡ changed_if true (decided_as (outcome_of reason)) filed }
 {
-    if !closed {
-        return filed;
-    }
     match filed {
         Some(filed) => Some(Filed {
             entry: decided_as(filed.entry, outcome_of(reason)),

@@ -1,27 +1,25 @@
 -- What is counted never falls, so that no number comes twice.
-use Rattle.std.proofs.Common.{◌≡◌, ℕ, zero, suc, ◌+◌, ◌<◌, ◌≤◌, ◌==◌, Bool, true, false, cond, ◌&&◌, Option, Some, None, List, ◌∷◌, length, refl, sym, ap, ◌∙◌, subst, inl, inr, arith, le_refl, le_trans, le_of_eq}
-use Rattle.std.proofs.lemmas.Bool.{cases_eq, cases_order, eq-eqb, and_from}
+use Rattle.std.proofs.Common.{◌≡◌, ℕ, zero, ◌+◌, ◌<◌, ◌≤◌, ◌==◌, Bool, true, false, cond, ◌&&◌, Option, Some, None, List, ◌∷◌, length, sym, ap, ◌∙◌, subst, inl, inr, arith, le_refl, le_trans, le_of_eq}
+use Rattle.std.proofs.lemmas.Bool.{cases_eq, cases_order}
 use Rattle.std.proofs.lemmas.List.{length-map}
 use Rattle.sched_plain.specs.declared.entry.Entry.{Entry}
 use Rattle.sched_plain.specs.declared.entry.Filed.{Filed}
 use Rattle.sched_plain.specs.declared.step.Step.{Step}
 use Rattle.sched_plain.specs.declared.step.Step.TheVariants as steps
-use Rattle.sched_plain.specs.declared.verdict.Outcome.TheVariants as outcomes
+use Rattle.sched_plain.specs.declared.outcome.Outcome.TheVariants as outcomes
 use Rattle.sched_plain.specs.History.{History, beginning, ◌upon◌, count}
-use Rattle.sched_plain.specs.Lists.{numbers, or_else}
-use Rattle.sched_plain.specs.Calendar.{Calendar}
+use Rattle.plain_words.specs.Lists.{numbers, or_else}
+use Rattle.expressions.specs.Calendar.{Calendar}
 use Rattle.sched_plain.specs.Ledger.{LedgerCall, Entered, Begun, Finished, Closed, Cancelled, Lost, ledger_of}
 use Rattle.sched_plain.specs.Entries.{decided_as, with_begin, with_end, outcome_of, with_loss, changed_if, is_lost_in, filed_by, filed}
 use Rattle.sched_plain.specs.Attempts.{attempts}
 use Rattle.sched_plain.specs.Legal.{IsLegal}
+use Rattle.plain_words.proofs.Booleans.{both_itself}
+use Rattle.plain_words.proofs.ListLemmas.{length_numbers}
 use Rattle.book_laws.specs.AttemptLaws.{allowed, counted, NumbersCount, BeginsAt, BeginsDiffer, AttemptsAreAllowed, EntriesCount}
 use Rattle.book_laws.proofs.Places.{found_top, found_below, place_bound}
 use Rattle.book_laws.proofs.NewCalls.{new_calls, ledger_is, calls_keep}
 use Rattle.book_laws.proofs.Numbers.{LeavesCount, counted_edit, decided_leaves, loss_leaves, end_leaves, IsNext, begin_next, counted_in}
-
-length_numbers : (from n : ℕ) → length (numbers from n) ≡ n
-length_numbers from zero = refl
-length_numbers from (suc n) = ap suc (length_numbers (from + 1) n)
 
 pub entries_count : EntriesCount
 entries_count c h legal inc i =
@@ -87,7 +85,7 @@ begun_before c (s upon h) legal place inc i number begins =
       | inl top ↦
           let same : s ≡ steps.Begin at inc i number epoch = found_top s (steps.Begin at inc i number epoch) h place top begins.2 in
           let may = (subst (λ t. IsLegal c (t upon h)) same legal).1 in
-          let here : (inc == inc && i == i) ≡ true = and_from (inc == inc) (i == i) (eq-eqb inc inc refl) (eq-eqb i i refl) in
+          let here : (inc == inc && i == i) ≡ true = both_itself inc i in
           let is : counted (filed (ledger_of (steps.Begin at inc i number epoch upon h)) inc i) ≡ number =
           ap (λ b. counted (changed_if b (with_begin at.0) (filed (ledger_of h) inc i))) here
           ∙ begun_is at.0 number (filed (ledger_of h) inc i) (begin_next c h at inc i number epoch may) in

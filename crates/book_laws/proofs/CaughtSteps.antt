@@ -2,22 +2,23 @@
 use Rattle.std.proofs.Common.{◌≡◌, ℕ, ◌+◌, ◌≤◌, ◌==◌, max, Bool, true, false, cond, Option, Some, None, is_some, List, [], ◌++◌, map, length, take, refl, sym, ap, ap₂, ◌∙◌, subst, inl, inr, arith}
 use Rattle.std.proofs.lemmas.Bool.{cases_eq, eq-eqb, ne_eqb, eqb-true}
 use Rattle.std.proofs.lemmas.List.{length-map}
-use Rattle.sched_plain.specs.declared.moment.Moment.{Moment}
+use Rattle.plain_words.specs.declared.moment.Moment.{Moment}
 use Rattle.sched_plain.specs.declared.row.Row.{Row}
 use Rattle.sched_plain.specs.declared.step.Pair.{Pair}
 use Rattle.sched_plain.specs.declared.step.Step.{Step}
 use Rattle.sched_plain.specs.declared.step.Step.TheVariants as steps
 use Rattle.sched_plain.specs.declared.write.Write.{Write}
 use Rattle.sched_plain.specs.History.{History, ◌upon◌}
-use Rattle.sched_plain.specs.Ids.{shard_of}
+use Rattle.plain_words.specs.Ids.{shard_of}
 use Rattle.sched_plain.specs.Moments.{at_of, moment}
-use Rattle.sched_plain.specs.Lists.{nth, last}
+use Rattle.plain_words.specs.Lists.{nth, last}
 use Rattle.sched_plain.specs.Changes.{changes_of}
 use Rattle.sched_plain.specs.Rows.{deed_of, touches, done_to, removed_at, rows_of}
 use Rattle.sched_plain.specs.Zones.{bytes_of}
 use Rattle.sched_plain.specs.Items.{cut_item, items_written, items_born, items_zoned, items}
-use Rattle.sched_plain.specs.Calendar.{Calendar}
-use Rattle.sched_plain.specs.Occurrences.{occurs_in, passing}
+use Rattle.expressions.specs.Calendar.{Calendar}
+use Rattle.sched_plain.specs.Occurrences.{occurs_in}
+use Rattle.plain_words.specs.Lists.{passing}
 use Rattle.sched_plain.specs.Leases.{holder, is_taking}
 use Rattle.sched_plain.specs.Ledger.{ended_by, ledger_of}
 use Rattle.sched_plain.specs.Entries.{entries, instants_of}
@@ -26,14 +27,17 @@ use Rattle.sched_plain.specs.Seen.{seen}
 use Rattle.sched_plain.specs.Work.{open_at, first_open}
 use Rattle.sched_plain.specs.Rules.{first_astray}
 use Rattle.sched_plain.specs.Legal.{MayFollow}
-use Rattle.book_laws.proofs.Tables.{map_none, kind_holds, moment_holds}
+use Rattle.plain_words.proofs.Options.{map_none}
+use Rattle.plain_words.proofs.ListLemmas.{nth_past}
+use Rattle.sched_plain.proofs.LedgerLemmas.{entries_cancelled, entries_lost}
+use Rattle.book_laws.proofs.Tables.{kind_holds, moment_holds}
 use Rattle.book_laws.proofs.Passing.{from_on}
 use Rattle.book_laws.proofs.Fronts.{reach}
 use Rattle.book_laws.proofs.Spans.{zoned_stays, cut_if_stays}
-use Rattle.book_laws.proofs.Searches.{nth_within, nth_past, none_before, none_unchanged, none_among, none_open}
+use Rattle.book_laws.proofs.Searches.{nth_within, none_before, none_unchanged, none_among, none_open}
 use Rattle.book_laws.proofs.Settled.{swept_open}
 use Rattle.book_laws.proofs.Pairs.{none_astray, grown_by}
-use Rattle.book_laws.proofs.Covers.{Caught, no_items, none_from_on, same_below, entries_cancelled, entries_lost, unentered_is, written_exact, written_bound, born_exact, born_bound, born_row}
+use Rattle.book_laws.proofs.Covers.{Caught, no_items, none_from_on, same_below, unentered_is, written_exact, written_bound, born_exact, born_bound, deed_bound, born_row}
 
 -- the bound of the step before is one of the step behind
 moved : (m old at : ℕ) → m ≤ old + 1 → old ≤ at → m ≤ at + 1
@@ -125,10 +129,6 @@ swept_exact : (p : ℕ → Bool) (b : Bool) (m n : ℕ) → (b ≡ true → pass
 swept_exact p true m n closed = reach p m n (closed refl)
 swept_exact p false m n closed = refl
 
-swept_bound : (b : Bool) (m at : ℕ) → m ≤ at + 1 → cond b (max m (at + 1)) m ≤ at + 1
-swept_bound true m at le = omega arith
-swept_bound false m at le = le
-
 swept_closed : (c : Calendar) (h : History) (inc : ℕ) (at : Moment) (shard : ℕ) → MayFollow c h (steps.Swept at shard) → Caught c h inc
     → (row : Option Row) → nth (rows_of (changes_of h)) inc ≡ row → (shard == shard_of inc) ≡ true
     → passing (from_on (cover h inc) (occurs_in c (items h inc))) (at.0 + 1) ≡ []
@@ -140,7 +140,7 @@ pub swept_caught : (c : Calendar) (h : History) (inc : ℕ) (at : Moment) (shard
     → Caught c h inc → Caught c (steps.Swept at shard upon h) inc
 swept_caught c h inc at shard may old =
     record {
-      bound = swept_bound (shard == shard_of inc) (cover h inc) at.0 (moved (cover h inc) (moment h) at.0 old.bound (moment_holds c h (steps.Swept at shard) may));
+      bound = deed_bound (shard == shard_of inc) (cover h inc) at.0 (moved (cover h inc) (moment h) at.0 old.bound (moment_holds c h (steps.Swept at shard) may));
       exact = old.exact ∙ swept_exact (occurs_in c (items h inc)) (shard == shard_of inc) (cover h inc) (at.0 + 1)
           (swept_closed c h inc at shard may old (nth (rows_of (changes_of h)) inc) refl);
       unborn = old.unborn;

@@ -9,17 +9,17 @@ use Rattle.sched_plain.specs.declared.schedule.Policy.{Policy}
 use Rattle.sched_plain.specs.declared.standing.Standing.TheVariants as standings
 use Rattle.sched_plain.specs.declared.step.Pair.{Pair}
 use Rattle.sched_plain.specs.declared.step.Step.TheVariants as steps
-use Rattle.sched_plain.specs.declared.verdict.Outcome.TheVariants as outcomes
-use Rattle.sched_plain.specs.declared.verdict.Reason.{Reason}
-use Rattle.sched_plain.specs.declared.verdict.Verdict.{Verdict}
-use Rattle.sched_plain.specs.declared.verdict.Verdict.TheVariants as verdicts
+use Rattle.sched_plain.specs.declared.outcome.Outcome.TheVariants as outcomes
+use Rattle.sched_plain.specs.declared.outcome.Reason.{Reason}
+use Rattle.plain_words.specs.declared.verdict.Verdict.{Verdict}
+use Rattle.plain_words.specs.declared.verdict.Verdict.TheVariants as verdicts
 use Rattle.sched_plain.specs.History.{History, beginning, ◌upon◌}
-use Rattle.sched_plain.specs.Ids.{shard_of}
+use Rattle.plain_words.specs.Ids.{shard_of}
 use Rattle.sched_plain.specs.Moments.{moment}
-use Rattle.sched_plain.specs.Lists.{or_else, only_if}
+use Rattle.plain_words.specs.Lists.{or_else, only_if}
 use Rattle.sched_plain.specs.Changes.{changes_of}
 use Rattle.sched_plain.specs.Rows.{rows_of}
-use Rattle.sched_plain.specs.Calendar.{Calendar}
+use Rattle.expressions.specs.Calendar.{Calendar}
 use Rattle.sched_plain.specs.Leases.{holder, is_taking}
 use Rattle.sched_plain.specs.Ledger.{LedgerCall, Cancelled, Lost, policy_of, ended_by, ledger_of}
 use Rattle.sched_plain.specs.Entries.{new_entry, decided_as, with_begin, with_end, outcome_of, with_loss, lost_last, changed_if, is_lost_in, filed_by, filed}
@@ -27,8 +27,10 @@ use Rattle.sched_plain.specs.Attempts.{is_live_last, is_live_attempt}
 use Rattle.sched_plain.specs.Standing.{earliest, earliest_after, is_used_up, is_past_age, standing_of}
 use Rattle.sched_plain.specs.Rules.{begin_table, end_table}
 use Rattle.sched_plain.specs.Legal.{IsLegal}
-use Rattle.book_laws.proofs.Tables.{AllNone, kind_holds, moment_holds, when_none}
-use Rattle.book_laws.proofs.Standings.{due_says, due_is, exhausted_says}
+use Rattle.plain_words.proofs.ListLemmas.{AllNone, when_none}
+use Rattle.sched_plain.proofs.LedgerLemmas.{due_is}
+use Rattle.book_laws.proofs.Tables.{kind_holds, moment_holds}
+use Rattle.book_laws.proofs.Standings.{due_says, exhausted_says}
 use Rattle.book_laws.proofs.FiledEdits.{edit_keeps}
 use Rattle.book_laws.proofs.Numbers.{at_same}
 

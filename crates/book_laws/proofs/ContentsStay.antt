@@ -9,20 +9,22 @@ use Rattle.sched_plain.specs.declared.schedule.Schedule.{Schedule}
 use Rattle.sched_plain.specs.declared.write.Write.{Write}
 use Rattle.sched_plain.specs.History.{History}
 use Rattle.sched_plain.specs.Moments.{moment}
-use Rattle.sched_plain.specs.Lists.{nth, change_nth}
+use Rattle.plain_words.specs.Lists.{nth, change_nth}
 use Rattle.sched_plain.specs.Changes.{changes_of, Written, Removed}
 use Rattle.sched_plain.specs.Rows.{Deed, Nothing, Renews, Ends, deed_of, cut_at, revision_from, done_to, removed_at, born, rows_after, rows_of, covers, content_at}
 use Rattle.sched_plain.specs.Items.{items}
-use Rattle.sched_plain.specs.Calendar.{Calendar}
-use Rattle.sched_plain.specs.Occurrences.{occurs_in, passing}
+use Rattle.expressions.specs.Calendar.{Calendar}
+use Rattle.sched_plain.specs.Occurrences.{occurs_in}
+use Rattle.plain_words.specs.Lists.{passing}
 use Rattle.sched_plain.specs.Ledger.{ledger_of}
 use Rattle.sched_plain.specs.Entries.{entries, filed}
 use Rattle.sched_plain.specs.Marks.{cover}
+use Rattle.plain_words.proofs.ListLemmas.{nth_map, nth_more}
+use Rattle.sched_plain.proofs.LedgerLemmas.{filed_paired}
 use Rattle.book_laws.proofs.Passing.{in_list, mem_passing}
 use Rattle.book_laws.proofs.Spans.{le_min}
-use Rattle.book_laws.proofs.Searches.{nth_map, nth_more, changed_here, changed_elsewhere}
+use Rattle.book_laws.proofs.Searches.{changed_here, changed_elsewhere}
 use Rattle.book_laws.proofs.Pairs.{paired_in}
-use Rattle.book_laws.proofs.FiledEdits.{filed_paired}
 use Rattle.book_laws.proofs.Covers.{Caught}
 
 -- the content that these revisions have at an instant

@@ -5,16 +5,16 @@ use Rattle.sched_plain.specs.declared.entry.Filed.{Filed}
 use Rattle.sched_plain.specs.declared.standing.Standing.{Standing}
 use Rattle.sched_plain.specs.declared.standing.Standing.TheVariants as standings
 use Rattle.sched_plain.specs.declared.step.Pair.{Pair}
-use Rattle.sched_plain.specs.declared.verdict.Outcome.TheVariants as outcomes
-use Rattle.sched_plain.specs.Lists.{numbers}
+use Rattle.sched_plain.specs.declared.outcome.Outcome.TheVariants as outcomes
+use Rattle.plain_words.specs.Lists.{numbers}
 use Rattle.sched_plain.specs.Changes.{changes_of}
 use Rattle.sched_plain.specs.Rows.{rows_of}
 use Rattle.sched_plain.specs.Ledger.{LedgerCall, ledger_of}
 use Rattle.sched_plain.specs.Entries.{entries, is_paired, filed}
 use Rattle.sched_plain.specs.Standing.{standing_of}
 use Rattle.sched_plain.specs.Report.{standings_of, all_standings, number_of, is_done, is_final, is_closed_by_attempts, is_closed_by_age, is_cancelled, is_waiting, is_due, is_live, is_exhausted}
+use Rattle.sched_plain.proofs.LedgerLemmas.{filed_paired}
 use Rattle.book_laws.specs.CountLaws.{CountsAddUp, EntriesAreCounted}
-use Rattle.book_laws.proofs.FiledEdits.{filed_paired}
 
 abbrev nine : List Standing → ℕ
 nine all =

@@ -1,21 +1,23 @@
 -- The entries of an incarnation are its occurrences below its cover: the induction over every legal history.
-use Rattle.std.proofs.Common.{◌≡◌, ℕ, ◌+◌, ◌≤◌, max, nat_le, Bool, true, false, cond, Option, Some, None, List, [], ◌∷◌, ◌++◌, map, length, refl, sym, ap, ◌∙◌, arith}
+use Rattle.std.proofs.Common.{◌≡◌, ℕ, ◌+◌, ◌≤◌, max, nat_le, Bool, true, false, cond, Option, Some, None, List, [], ◌++◌, length, refl, sym, ap, ◌∙◌, arith}
 use Rattle.sched_plain.specs.declared.row.Row.{Row}
 use Rattle.sched_plain.specs.declared.write.Write.{Write}
 use Rattle.sched_plain.specs.declared.write.Write.TheVariants as writes
 use Rattle.sched_plain.specs.History.{History}
 use Rattle.sched_plain.specs.Moments.{moment}
-use Rattle.sched_plain.specs.Lists.{nth, only_if}
+use Rattle.plain_words.specs.Lists.{nth}
 use Rattle.sched_plain.specs.Changes.{changes_of}
 use Rattle.sched_plain.specs.Rows.{Deed, Nothing, Renews, Ends, deed_of, touches, born, rows_of}
 use Rattle.sched_plain.specs.Zones.{read_under}
 use Rattle.sched_plain.specs.Items.{Item, opened, items_done, items_written, items_born, items}
-use Rattle.sched_plain.specs.Calendar.{Calendar}
-use Rattle.sched_plain.specs.Occurrences.{occurs, occurs_in, passing, occ_below}
-use Rattle.sched_plain.specs.Ledger.{LedgerCall, Cancelled, Lost, ledger_of}
+use Rattle.expressions.specs.Calendar.{Calendar}
+use Rattle.sched_plain.specs.Occurrences.{occurs, occurs_in, occ_below}
+use Rattle.plain_words.specs.Lists.{passing}
+use Rattle.sched_plain.specs.Ledger.{ledger_of}
 use Rattle.sched_plain.specs.Entries.{entries, instants_of}
 use Rattle.sched_plain.specs.Marks.{unentered, cover_written, cover_born, cover}
-use Rattle.book_laws.proofs.Passing.{from_on, passing_same, passing_none, and_false, or_false}
+use Rattle.plain_words.proofs.Booleans.{and_false, or_false}
+use Rattle.book_laws.proofs.Passing.{from_on, passing_same, passing_none}
 use Rattle.book_laws.proofs.Fronts.{reach}
 use Rattle.book_laws.proofs.Spans.{done_stays, opened_later}
 use Rattle.book_laws.proofs.Searches.{last_there}
@@ -39,16 +41,6 @@ none_from_on c all m n none =
 pub same_below : (c : Calendar) (new old : List Item) (m at : ℕ) → m ≤ at + 1 → ((i : ℕ) → i ≤ at → occurs_in c new i ≡ occurs_in c old i)
     → passing (occurs_in c old) m ≡ passing (occurs_in c new) m
 same_below c new old m at le same = passing_same _ _ m (λ i lt. let up : i ≤ at = omega arith in sym (same i up))
-
--- other calls of the ledger add no pairs
-pub entries_cancelled : (incs : List ℕ) (before : List LedgerCall) (inc : ℕ) → entries (map Cancelled incs ++ before) inc ≡ entries before inc
-entries_cancelled [] before inc = refl
-entries_cancelled (one ∷ incs) before inc = entries_cancelled incs before inc
-
-pub entries_lost : (b : Bool) (shard : Option ℕ) (at : ℕ) (before : List LedgerCall) (inc : ℕ)
-    → entries (only_if b (Lost shard at) ++ before) inc ≡ entries before inc
-entries_lost true shard at before inc = refl
-entries_lost false shard at before inc = refl
 
 -- what is unentered is what occurs from the cover on
 pub unentered_is : (c : Calendar) (h : History) (inc t : ℕ) → Caught c h inc

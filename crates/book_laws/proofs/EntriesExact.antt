@@ -1,15 +1,17 @@
 -- The entries of every legal history are its occurrences up to the marks.
-use Rattle.std.proofs.Common.{◌≡◌, ◌+◌, ℕ, zero, suc, ◌<◌, nat_le, Bool, true, false, cond, Option, Some, None, AllPairs, length, refl, sym, ap, ◌∙◌, subst, arith, add-one, filter, ◌&&◌}
+use Rattle.std.proofs.Common.{◌≡◌, ◌+◌, ℕ, zero, suc, ◌<◌, nat_le, Bool, true, false, cond, Option, Some, None, AllPairs, length, refl, sym, ap, ◌∙◌, subst, arith, add-one, filter}
+use Rattle.std.proofs.Math.Bool.{and_comm}
 use Rattle.std.proofs.lemmas.Bool.{and_from, le-leb, true≢false}
 use Rattle.sched_plain.specs.declared.row.Row.{Row}
 use Rattle.sched_plain.specs.declared.step.Step.TheVariants as steps
 use Rattle.sched_plain.specs.History.{History, beginning, ◌upon◌}
-use Rattle.sched_plain.specs.Lists.{nth}
+use Rattle.plain_words.specs.Lists.{nth}
 use Rattle.sched_plain.specs.Changes.{changes_of}
 use Rattle.sched_plain.specs.Rows.{rows_of}
 use Rattle.sched_plain.specs.Items.{items}
-use Rattle.sched_plain.specs.Calendar.{Calendar}
-use Rattle.sched_plain.specs.Occurrences.{occurs_in, passing, occ_below, occ}
+use Rattle.expressions.specs.Calendar.{Calendar}
+use Rattle.sched_plain.specs.Occurrences.{occurs_in, occ_below, occ}
+use Rattle.plain_words.specs.Lists.{passing}
 use Rattle.sched_plain.specs.Marks.{one_before, is_created, cover}
 use Rattle.sched_plain.specs.Legal.{IsLegal}
 use Rattle.book_laws.specs.EntryLaws.{occ_upto, EntriesAreOccurrences, EntriesRise, UnenteredAreTheRest}
@@ -71,17 +73,11 @@ entries_rise c h legal inc =
     let old = caught c h legal inc in
     subst (λ xs. AllPairs (λ earlier later. earlier < later) xs) (sym old.exact) (passing_rises (occurs_in c (items h inc)) (cover h inc))
 
-and_swap : (a b : Bool) → (a && b) ≡ (b && a)
-and_swap true true = refl
-and_swap true false = refl
-and_swap false true = refl
-and_swap false false = refl
-
 from_cover : (c : Calendar) (h : History) (inc m t : ℕ)
     → passing (from_on m (occurs_in c (items h inc))) (t + 1) ≡ filter (λ i. nat_le m i) (occ c h inc t)
 unfolding occ_below
 from_cover c h inc m t =
-    passing_same _ _ (t + 1) (λ i lt. and_swap (nat_le m i) (occurs_in c (items h inc) i))
+    passing_same _ _ (t + 1) (λ i lt. and_comm (nat_le m i) (occurs_in c (items h inc) i))
     ∙ sym (filter_passing (λ i. nat_le m i) (occurs_in c (items h inc)) (t + 1))
 
 pub unentered_are_the_rest : UnenteredAreTheRest

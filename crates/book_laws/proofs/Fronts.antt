@@ -2,9 +2,10 @@
 use Rattle.std.proofs.Common.{◌≡◌, ℕ, zero, suc, ◌+◌, ◌≤◌, max, Bool, true, false, Option, Some, None, List, [], ◌∷◌, ◌++◌, length, take, refl, sym, ap, ◌∙◌, subst, inl, inr, arith, append-nil, take_all, length-append, zero-le, add-one, le_refl}
 use Rattle.std.proofs.lemmas.Bool.{cases_lt}
 use Rattle.std.proofs.lemmas.List.{take-append-le}
-use Rattle.sched_plain.specs.Lists.{put_if, last, last_from}
-use Rattle.sched_plain.specs.Occurrences.{passing}
-use Rattle.book_laws.proofs.Passing.{from_on, by_bool, nothing_from, passing_split}
+use Rattle.plain_words.specs.Lists.{put_if, last, last_from}
+use Rattle.plain_words.specs.Lists.{passing}
+use Rattle.plain_words.proofs.Booleans.{by_bool}
+use Rattle.book_laws.proofs.Passing.{from_on, nothing_from, passing_split}
 
 -- what passes below this bound is a front of so many
 pub record IsFront (q : ℕ → Bool) (n k m : ℕ) : Type 0 where

@@ -2,20 +2,21 @@
 use Rattle.std.proofs.Common.{◌≡◌, ℕ, ◌==◌, cond, ◌&&◌, Some, None, List, [], ◌++◌, refl, sym, ap, ap₂, ◌∙◌, inl, inr, le_trans, append-nil}
 use Rattle.std.proofs.lemmas.Bool.{cases_Bool}
 use Rattle.std.proofs.lemmas.List.Elements.{filter-append}
-use Rattle.sched_plain.specs.declared.moment.Moment.{Moment}
+use Rattle.plain_words.specs.declared.moment.Moment.{Moment}
 use Rattle.sched_plain.specs.declared.step.Step.TheVariants as steps
-use Rattle.sched_plain.specs.declared.verdict.Reason.{Reason}
-use Rattle.sched_plain.specs.declared.verdict.Verdict.{Verdict}
+use Rattle.sched_plain.specs.declared.outcome.Reason.{Reason}
+use Rattle.plain_words.specs.declared.verdict.Verdict.{Verdict}
 use Rattle.sched_plain.specs.declared.write.Write.{Write}
 use Rattle.sched_plain.specs.History.{History, beginning, ◌upon◌}
 use Rattle.sched_plain.specs.Changes.{changes_of}
 use Rattle.sched_plain.specs.Rows.{rows_of}
-use Rattle.sched_plain.specs.Calendar.{Calendar}
+use Rattle.expressions.specs.Calendar.{Calendar}
 use Rattle.sched_plain.specs.Leases.{holder, is_taking}
 use Rattle.sched_plain.specs.Ledger.{policy_of, ended_by, ledger_of}
 use Rattle.sched_plain.specs.Entries.{decided_as, with_begin, with_end, outcome_of, with_loss, changed_if, is_lost_in, filed, is_open}
 use Rattle.sched_plain.specs.Queues.{Posted, queue_of, letter_in, final_letter, posted}
 use Rattle.sched_plain.specs.Legal.{IsLegal, MayFollow}
+use Rattle.plain_words.proofs.Booleans.{both_itself}
 use Rattle.book_laws.specs.OutcomeLaws.{decision}
 use Rattle.book_laws.specs.LetterLaws.{is_about, queue_named}
 use Rattle.book_laws.proofs.Tables.{moment_holds}
@@ -23,7 +24,7 @@ use Rattle.book_laws.proofs.Numbers.{at_same}
 use Rattle.book_laws.proofs.OutcomesStay.{decided, close_open, open_none, closed_is}
 use Rattle.book_laws.proofs.EntriesExact.{caught}
 use Rattle.book_laws.proofs.ContentsStay.{filed_there, written_stays, removed_stays}
-use Rattle.book_laws.proofs.PostedLetters.{about, letter_for, Lettered, edit_same, entered_same, lost_if_same, same_outcome, cancels_same, queue_matters, self_about, about_self, about_other, final_other, end_filed, closed_letter}
+use Rattle.book_laws.proofs.PostedLetters.{about, letter_for, Lettered, edit_same, entered_same, lost_if_same, same_outcome, cancels_same, queue_matters, about_self, about_other, final_other, end_filed, closed_letter}
 
 change_lettered : (c : Calendar) (h : History) (at : Moment) (write : Write) (inc i : ℕ) → IsLegal c (steps.Change at write upon h) → Lettered h inc i
     → Lettered (steps.Change at write upon h) inc i
@@ -63,7 +64,7 @@ end_lettered h at of instant number verdict status inc i here old =
           (with_more h of instant more here
           ∙ end_filed verdict at.0 (filed (ledger_of h) of instant) (queue_named h of instant) of instant
           ∙ ap (λ b. letter_for (decided (changed_if b (with_end verdict at.0) (filed (ledger_of h) of instant))) (queue_named h of instant) of instant)
-          (sym (self_about of instant)))
+          (sym (both_itself of instant)))
       | inr other ↦
           with_more h inc i more old
           ∙ ap (λ all. letter_for (decision h inc i) (queue_named h inc i) inc i ++ all)
@@ -87,7 +88,7 @@ close_lettered c h at of instant reason inc i may here old =
           ∙ ap₂ (λ o all. letter_for o queue of instant ++ all) (open_none f is) (about_self queue of instant (outcome_of reason))
           ∙ closed_letter reason queue of instant
           ∙ ap (λ o. letter_for o queue of instant) (sym (closed_is (outcome_of reason) f is))
-          ∙ ap (λ b. letter_for (decided (changed_if b (decided_as (outcome_of reason)) f)) queue of instant) (sym (self_about of instant)))
+          ∙ ap (λ b. letter_for (decided (changed_if b (decided_as (outcome_of reason)) f)) queue of instant) (sym (both_itself of instant)))
       | inr other ↦
           with_more h inc i more old
           ∙ ap (λ all. letter_for (decision h inc i) (queue_named h inc i) inc i ++ all) (about_other queue of instant (outcome_of reason) inc i other)

@@ -1,9 +1,9 @@
 -- The letters of a queue about an occurrence are those that its entry's outcome owes the queue.
 use Rattle.std.proofs.Common.{◌≡◌, ℕ, Bool, true, false, cond, Option, Some, None, List, [], ◌∷◌, map, filter, refl, sym, ap, ◌∙◌}
 use Rattle.sched_plain.specs.declared.letter.Letter.{Letter}
-use Rattle.sched_plain.specs.declared.verdict.Outcome.{Outcome}
-use Rattle.sched_plain.specs.declared.verdict.Outcome.TheVariants as outcomes
-use Rattle.sched_plain.specs.Lists.{only_if}
+use Rattle.sched_plain.specs.declared.outcome.Outcome.{Outcome}
+use Rattle.sched_plain.specs.declared.outcome.Outcome.TheVariants as outcomes
+use Rattle.plain_words.specs.Lists.{only_if}
 use Rattle.sched_plain.specs.Rows.{same_text}
 use Rattle.sched_plain.specs.Queues.{Posted, letter_in, posted}
 use Rattle.book_laws.specs.OutcomeLaws.{decision}

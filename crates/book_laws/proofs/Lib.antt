@@ -1,27 +1,27 @@
-pub mod Tables
-pub mod Places
-pub mod MomentsRise
-pub mod TokensKept
-pub mod Passing
-pub mod Fronts
-pub mod Spans
-pub mod Searches
-pub mod Pairs
-pub mod Covers
-pub mod Settled
-pub mod CaughtSteps
-pub mod EntriesExact
-pub mod NewCalls
-pub mod Standings
-pub mod FiledEdits
-pub mod Numbers
-pub mod BeginsDiffer
-pub mod FirstSteps
-pub mod OutcomesStay
-pub mod ChosenCome
 pub mod SweptLeaves
-pub mod CountsAdd
-pub mod ContentsStay
-pub mod PostedLetters
-pub mod LetteredSteps
-pub mod LettersOwed
+pub mod FirstSteps
+pub mod EntriesExact
+pub mod BeginsDiffer
+mod Tables
+mod Places
+mod MomentsRise
+mod TokensKept
+mod Passing
+mod Fronts
+mod Spans
+mod Searches
+mod Pairs
+mod Covers
+mod Settled
+mod CaughtSteps
+mod NewCalls
+mod Standings
+mod FiledEdits
+mod Numbers
+mod OutcomesStay
+mod ChosenCome
+mod CountsAdd
+mod ContentsStay
+mod PostedLetters
+mod LetteredSteps
+mod LettersOwed

@@ -4,7 +4,7 @@ use Rattle.std.proofs.lemmas.Bool.{cases_eq}
 use Rattle.sched_plain.specs.declared.step.Step.{Step}
 use Rattle.sched_plain.specs.History.{History, beginning, ◌upon◌, count, step_at}
 use Rattle.sched_plain.specs.Moments.{at_of, moment}
-use Rattle.sched_plain.specs.Calendar.{Calendar}
+use Rattle.expressions.specs.Calendar.{Calendar}
 use Rattle.sched_plain.specs.Legal.{IsLegal}
 use Rattle.book_laws.specs.MomentLaws.{MomentsNeverFall}
 use Rattle.book_laws.proofs.Tables.{moment_holds}

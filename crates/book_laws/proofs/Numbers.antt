@@ -7,19 +7,19 @@ use Rattle.sched_plain.specs.declared.entry.Entry.{Entry}
 use Rattle.sched_plain.specs.declared.entry.Fate.TheVariants as fates
 use Rattle.sched_plain.specs.declared.entry.Filed.{Filed}
 use Rattle.sched_plain.specs.declared.holder.Holder.{Holder}
-use Rattle.sched_plain.specs.declared.moment.Moment.{Moment}
+use Rattle.plain_words.specs.declared.moment.Moment.{Moment}
 use Rattle.sched_plain.specs.declared.schedule.Policy.{Policy}
 use Rattle.sched_plain.specs.declared.step.Pair.{Pair}
 use Rattle.sched_plain.specs.declared.step.Step.TheVariants as steps
-use Rattle.sched_plain.specs.declared.verdict.Outcome.TheVariants as outcomes
-use Rattle.sched_plain.specs.declared.verdict.Verdict.{Verdict}
-use Rattle.sched_plain.specs.declared.verdict.Verdict.TheVariants as verdicts
+use Rattle.sched_plain.specs.declared.outcome.Outcome.TheVariants as outcomes
+use Rattle.plain_words.specs.declared.verdict.Verdict.{Verdict}
+use Rattle.plain_words.specs.declared.verdict.Verdict.TheVariants as verdicts
 use Rattle.sched_plain.specs.History.{History, beginning, ◌upon◌}
-use Rattle.sched_plain.specs.Ids.{shard_of}
-use Rattle.sched_plain.specs.Lists.{numbers, or_else, only_if}
+use Rattle.plain_words.specs.Ids.{shard_of}
+use Rattle.plain_words.specs.Lists.{numbers, or_else, only_if}
 use Rattle.sched_plain.specs.Changes.{changes_of}
 use Rattle.sched_plain.specs.Rows.{rows_of}
-use Rattle.sched_plain.specs.Calendar.{Calendar}
+use Rattle.expressions.specs.Calendar.{Calendar}
 use Rattle.sched_plain.specs.Leases.{holder, is_taking}
 use Rattle.sched_plain.specs.Ledger.{LedgerCall, Finished, Cancelled, Lost, policy_of, ended_by, ledger_of}
 use Rattle.sched_plain.specs.Entries.{new_entry, decided_as, with_begin, with_end, outcome_of, with_loss, changed_if, is_lost_in, filed_by, filed}
@@ -27,9 +27,11 @@ use Rattle.sched_plain.specs.Attempts.{begun_attempt, end_attempt, lose_attempt,
 use Rattle.sched_plain.specs.Standing.{standing_of}
 use Rattle.sched_plain.specs.Rules.{begin_table}
 use Rattle.sched_plain.specs.Legal.{IsLegal, MayFollow}
+use Rattle.plain_words.proofs.ListLemmas.{AllNone, when_none}
+use Rattle.sched_plain.proofs.LedgerLemmas.{due_is}
 use Rattle.book_laws.specs.AttemptLaws.{allowed, counted}
-use Rattle.book_laws.proofs.Tables.{AllNone, kind_holds, when_none}
-use Rattle.book_laws.proofs.Standings.{due_says, due_is}
+use Rattle.book_laws.proofs.Tables.{kind_holds}
+use Rattle.book_laws.proofs.Standings.{due_says}
 
 -- these numbers count up to what the entry counts, and that is allowed
 pub record IsCounted (found : List ℕ) (f : Option Filed) : Type 0 where

@@ -4,23 +4,24 @@ use Rattle.std.specs.Option.{option_and_then}
 use Rattle.std.proofs.lemmas.Bool.{cases_order, eq-eqb, and_from}
 use Rattle.sched_plain.specs.declared.entry.Entry.{Entry}
 use Rattle.sched_plain.specs.declared.entry.Filed.{Filed}
-use Rattle.sched_plain.specs.declared.moment.Moment.{Moment}
+use Rattle.plain_words.specs.declared.moment.Moment.{Moment}
 use Rattle.sched_plain.specs.declared.step.Step.{Step}
 use Rattle.sched_plain.specs.declared.step.Step.TheVariants as steps
-use Rattle.sched_plain.specs.declared.verdict.Outcome.{Outcome}
-use Rattle.sched_plain.specs.declared.verdict.Outcome.TheVariants as outcomes
-use Rattle.sched_plain.specs.declared.verdict.Reason.{Reason}
-use Rattle.sched_plain.specs.declared.verdict.Verdict.{Verdict}
-use Rattle.sched_plain.specs.declared.verdict.Verdict.TheVariants as verdicts
+use Rattle.sched_plain.specs.declared.outcome.Outcome.{Outcome}
+use Rattle.sched_plain.specs.declared.outcome.Outcome.TheVariants as outcomes
+use Rattle.sched_plain.specs.declared.outcome.Reason.{Reason}
+use Rattle.plain_words.specs.declared.verdict.Verdict.{Verdict}
+use Rattle.plain_words.specs.declared.verdict.Verdict.TheVariants as verdicts
 use Rattle.sched_plain.specs.History.{History, ◌upon◌, first, as_it_was, with_step}
-use Rattle.sched_plain.specs.Lists.{or_else}
+use Rattle.plain_words.specs.Lists.{or_else}
 use Rattle.sched_plain.specs.Ledger.{LedgerCall, Entered, Begun, Finished, Closed, Cancelled, Lost, ledger_of}
 use Rattle.sched_plain.specs.Entries.{decided_as, with_begin, with_end, outcome_of, with_loss, changed_if, is_lost_in, filed_by, filed}
 use Rattle.sched_plain.specs.Standing.{standing_of}
 use Rattle.sched_plain.specs.Rules.{close_table}
 use Rattle.sched_plain.specs.Legal.{MayFollow}
+use Rattle.plain_words.proofs.ListLemmas.{AllNone}
 use Rattle.book_laws.specs.OutcomeLaws.{decision, OutcomesStay, DecidesAt, DecidedOnce, ClosesDecide}
-use Rattle.book_laws.proofs.Tables.{AllNone, kind_holds}
+use Rattle.book_laws.proofs.Tables.{kind_holds}
 use Rattle.book_laws.proofs.FirstSteps.{first_extends}
 use Rattle.book_laws.proofs.NewCalls.{new_calls, ledger_is, calls_keep}
 use Rattle.book_laws.proofs.Standings.{exhausted_says, exhausted_is}

@@ -3,8 +3,8 @@ use Rattle.std.proofs.Common.{◌≡◌, ℕ, ◌≤◌, ◌==◌, max, Bool, no
 use Rattle.std.proofs.lemmas.List.{map-append}
 use Rattle.std.proofs.lemmas.Bool.{cases_eq, ne_eqb, eq-eqb}
 use Rattle.sched_plain.specs.declared.step.Pair.{Pair}
-use Rattle.sched_plain.specs.Lists.{last, last_from}
-use Rattle.sched_plain.specs.Occurrences.{passing}
+use Rattle.plain_words.specs.Lists.{last, last_from}
+use Rattle.plain_words.specs.Lists.{passing}
 use Rattle.sched_plain.specs.Entries.{instants_of, is_paired}
 use Rattle.sched_plain.specs.Marks.{without_pair, cover_entered}
 use Rattle.sched_plain.specs.Rules.{first_astray}

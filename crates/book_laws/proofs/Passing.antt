@@ -5,8 +5,9 @@ use Rattle.std.proofs.lemmas.Bool.{cases_lt, cases_order, le-ltb, lt-ltb, le-leb
 use Rattle.std.proofs.lemmas.List.Elements.{filter-append, All-push, All-weaker, All-nil, All-get_or}
 use Rattle.std.proofs.lemmas.List.Folds.{list_any-append}
 use Rattle.std.proofs.lemmas.List.Quantifiers.{all_pairs_push}
-use Rattle.sched_plain.specs.Lists.{put_if}
-use Rattle.sched_plain.specs.Occurrences.{passing}
+use Rattle.plain_words.specs.Lists.{put_if}
+use Rattle.plain_words.specs.Lists.{passing}
+use Rattle.plain_words.proofs.Booleans.{and_false, and_true, by_bool, or_false}
 
 -- the test, from a number on
 abbrev pub from_on : ℕ → (ℕ → Bool) → ℕ → Bool
@@ -15,23 +16,6 @@ from_on m test i = nat_le m i && test i
 -- the number is in the list
 abbrev pub in_list : ℕ → List ℕ → Bool
 in_list i xs = list_any (λ x. i == x) xs
-
--- what holds by cases of a Bool
-pub by_bool : (P : Bool → Type 0) (b : Bool) → (b ≡ true → P true) → (b ≡ false → P false) → P b
-by_bool P true passes fails = passes refl
-by_bool P false passes fails = fails refl
-
-pub and_true : (b : Bool) → (b && true) ≡ b
-and_true true = refl
-and_true false = refl
-
-pub and_false : (b : Bool) → (b && false) ≡ false
-and_false true = refl
-and_false false = refl
-
-pub or_false : (b : Bool) → (b || false) ≡ b
-or_false true = refl
-or_false false = refl
 
 -- tests that agree below a bound let the same numbers pass
 pub passing_same : (p q : ℕ → Bool) (n : ℕ) → ((i : ℕ) → i < n → p i ≡ q i) → passing p n ≡ passing q n

@@ -3,6 +3,7 @@ use Rattle.std.proofs.Common.{◌≡◌, ℕ, ◌+◌, ◌≤◌, cond, Some, ap
 use Rattle.std.proofs.lemmas.Bool.{cases_eq, eq-eqb, ne_eqb}
 use Rattle.sched_plain.specs.declared.step.Step.{Step}
 use Rattle.sched_plain.specs.History.{History, beginning, ◌upon◌, count, step_at}
+use Rattle.plain_words.proofs.Options.{some_same}
 
 -- the step at the last place is the newest
 pub step_top : (s : Step) (h : History) (place : ℕ) → place ≡ count h + 1 → step_at (s upon h) place ≡ Some s
@@ -11,9 +12,6 @@ step_top s h place top = ap (λ b. cond b (Some s) (step_at h place)) (eq-eqb pl
 -- at any other place it is one of the steps before
 pub step_below : (s : Step) (h : History) (place : ℕ) → (place ≡ count h + 1 → ⊥) → step_at (s upon h) place ≡ step_at h place
 step_below s h place below = ap (λ b. cond b (Some s) (step_at h place)) (ne_eqb place (count h + 1) below)
-
-pub some_same : {A : Type 0} (a b : A) → Some a ≡ Some b → a ≡ b
-some_same a b e = cc
 
 -- the newest step, found at its place
 pub found_top : (s t : Step) (h : History) (place : ℕ) → place ≡ count h + 1 → step_at (s upon h) place ≡ Some t → s ≡ t

@@ -1,21 +1,21 @@
 -- The letters about an occurrence against its entry's outcome: the induction over every legal history.
 use Rattle.std.proofs.Common.{◌≡◌, ℕ, ◌==◌, Bool, true, false, cond, ◌&&◌, Option, Some, None, is_some, is_none, List, [], ◌∷◌, ◌++◌, map, filter, find, option_map, refl, sym, ap, ◌∙◌, append-nil}
-use Rattle.std.proofs.lemmas.Bool.{eq-eqb, and_from}
 use Rattle.sched_plain.specs.declared.entry.Entry.{Entry}
 use Rattle.sched_plain.specs.declared.entry.Filed.{Filed}
 use Rattle.sched_plain.specs.declared.schedule.Policy.{Policy}
 use Rattle.sched_plain.specs.declared.step.Pair.{Pair}
-use Rattle.sched_plain.specs.declared.verdict.Outcome.{Outcome}
-use Rattle.sched_plain.specs.declared.verdict.Outcome.TheVariants as outcomes
-use Rattle.sched_plain.specs.declared.verdict.Reason.{Reason}
-use Rattle.sched_plain.specs.declared.verdict.Reason.TheVariants as reasons
-use Rattle.sched_plain.specs.declared.verdict.Verdict.{Verdict}
-use Rattle.sched_plain.specs.declared.verdict.Verdict.TheVariants as verdicts
+use Rattle.sched_plain.specs.declared.outcome.Outcome.{Outcome}
+use Rattle.sched_plain.specs.declared.outcome.Outcome.TheVariants as outcomes
+use Rattle.sched_plain.specs.declared.outcome.Reason.{Reason}
+use Rattle.sched_plain.specs.declared.outcome.Reason.TheVariants as reasons
+use Rattle.plain_words.specs.declared.verdict.Verdict.{Verdict}
+use Rattle.plain_words.specs.declared.verdict.Verdict.TheVariants as verdicts
 use Rattle.sched_plain.specs.History.{History}
-use Rattle.sched_plain.specs.Lists.{or_else, only_if}
+use Rattle.plain_words.specs.Lists.{or_else, only_if}
 use Rattle.sched_plain.specs.Ledger.{LedgerCall, Cancelled, Lost}
 use Rattle.sched_plain.specs.Entries.{new_entry, decided_as, with_end, outcome_of, with_loss, changed_if, is_lost_in, filed_by, filed, is_open}
 use Rattle.sched_plain.specs.Queues.{Posted, letter_in, final_letter, posted}
+use Rattle.plain_words.proofs.Booleans.{both_itself}
 use Rattle.book_laws.specs.OutcomeLaws.{decision}
 use Rattle.book_laws.specs.LetterLaws.{is_about, queue_named}
 use Rattle.book_laws.proofs.OutcomesStay.{decided}
@@ -85,14 +85,11 @@ queue_matters None one other inc i same = refl
 queue_matters (Some f) one other inc i same = ap (λ queue. letter_for f.entry.outcome queue inc i) (same refl)
 
 -- a letter is about its own occurrence, and about no other
-pub self_about : (inc i : ℕ) → (inc == inc && i == i) ≡ true
-self_about inc i = and_from (inc == inc) (i == i) (eq-eqb inc inc refl) (eq-eqb i i refl)
-
 pub about_self : (queue : Option (List ℕ)) (inc i : ℕ) (reason : Outcome) → about inc i (letter_in queue inc i reason) ≡ letter_in queue inc i reason
 about_self None inc i reason = refl
 about_self (Some queue) inc i reason =
     let one : Posted = record { queue = queue; letter = record { inc = inc; instant = i; reason = reason } } in
-    ap (λ b. cond b (one ∷ []) []) (self_about inc i)
+    ap (λ b. cond b (one ∷ []) []) (both_itself inc i)
 
 pub about_other : (queue : Option (List ℕ)) (of at : ℕ) (reason : Outcome) (inc i : ℕ) → (inc == of && i == at) ≡ false
     → about inc i (letter_in queue of at reason) ≡ []

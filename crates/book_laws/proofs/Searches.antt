@@ -1,16 +1,13 @@
 -- What a search that found nothing says, and elements by their places.
-use Rattle.std.proofs.Common.{◌≡◌, ℕ, zero, suc, ◌+◌, ◌-◌, ◌<◌, ◌≤◌, ◌==◌, Bool, true, false, cond, Option, Some, None, List, [], ◌∷◌, ◌++◌, map, length, filter, option_map, refl, sym, ap, ◌∙◌, inl, inr, arith}
+use Rattle.std.proofs.Common.{◌≡◌, ℕ, zero, suc, ◌+◌, ◌-◌, ◌<◌, ◌≤◌, Bool, true, false, cond, Option, Some, None, List, [], ◌∷◌, ◌++◌, map, length, filter, option_map, refl, sym, ap, ◌∙◌, inl, inr, arith}
 use Rattle.std.proofs.lemmas.Bool.{cases_eq, eq-eqb, ne_eqb}
 use Rattle.sched_plain.specs.declared.row.Row.{Row}
-use Rattle.sched_plain.specs.Lists.{nth, change_nth, numbers, head, first_answer, or_else, some_pass}
+use Rattle.plain_words.specs.Lists.{nth, change_nth, numbers, head, first_answer, some_pass}
 use Rattle.sched_plain.specs.Rows.{incs_where}
 use Rattle.sched_plain.specs.Seen.{TimesSeen}
 use Rattle.sched_plain.specs.Work.{open_at}
-use Rattle.book_laws.proofs.Tables.{map_none}
-
-pub else_none : {A : Type 0} (a b : Option A) → or_else a b ≡ None → (a ≡ None) × (b ≡ None)
-else_none None b e = (refl, e)
-else_none (Some x) b e = let clash : ⊥ = cc in absurd clash
+use Rattle.plain_words.proofs.Options.{else_none, map_none}
+use Rattle.plain_words.proofs.ListLemmas.{nth_first, nth_map, nth_more, nth_rest}
 
 first_at : {B : Type 0} (question : ℕ → Option B) (b : Bool) (x : ℕ) (rest : List ℕ) → b ≡ true
     → first_answer question (cond b (x ∷ rest) rest) ≡ None → question x ≡ None
@@ -36,13 +33,6 @@ none_from question test from (suc n) inc e low up passes =
           (first_after question (test from) from (filter test (numbers (from + 1) n)) e) (omega arith) (omega arith) passes
     ]
 
--- the element at the first place, and at the others
-pub nth_first : {A : Type 0} (x : A) (xs : List A) (place : ℕ) → place ≡ 1 → nth (x ∷ xs) place ≡ Some x
-nth_first x xs place e = ap (λ b. cond b (Some x) (nth xs (place - 1))) (eq-eqb place 1 e)
-
-pub nth_rest : {A : Type 0} (x : A) (xs : List A) (place : ℕ) → (place ≡ 1 → ⊥) → nth (x ∷ xs) place ≡ nth xs (place - 1)
-nth_rest x xs place ne = ap (λ b. cond b (Some x) (nth xs (place - 1))) (ne_eqb place 1 ne)
-
 -- where an element is its place is within the list
 pub record IsWithin (place long : ℕ) : Type 0 where
   pub low : 1 ≤ place
@@ -60,12 +50,6 @@ nth_within (y ∷ xs) place x e =
           record { low = omega arith; up = omega arith }
     ]
 
-pub nth_past : {A : Type 0} (xs : List A) (place : ℕ) → length xs < place → nth xs place ≡ None
-nth_past [] place lt = refl
-nth_past (x ∷ xs) place lt =
-    let apart : place ≡ 1 → ⊥ = λ e. omega arith in
-    nth_rest x xs place apart ∙ nth_past xs (place - 1) (omega arith)
-
 pub nth_last : {A : Type 0} (xs : List A) (x : A) (place : ℕ) → place ≡ length xs + 1 → nth (xs ++ x ∷ []) place ≡ Some x
 nth_last [] x place e = nth_first x [] place e
 nth_last (y ∷ xs) x place e =
@@ -74,24 +58,6 @@ nth_last (y ∷ xs) x place e =
 
 pub last_there : {A : Type 0} (xs : List A) (x : A) (place : ℕ) → place ≡ length xs + 1 → nth (xs ++ x ∷ []) place ≡ None → ⊥
 last_there xs x place e none = let clash : Some x ≡ None = sym (nth_last xs x place e) ∙ none in cc
-
-pub nth_more : {A : Type 0} (xs ys : List A) (place : ℕ) (x : A) → nth xs place ≡ Some x → nth (xs ++ ys) place ≡ Some x
-nth_more [] ys place x e = let clash : ⊥ = cc in absurd clash
-nth_more (y ∷ xs) ys place x e =
-    elim (cases_eq place 1) [
-      | inl first ↦ nth_first y (xs ++ ys) place first ∙ sym (nth_first y xs place first) ∙ e
-      | inr apart ↦
-          nth_rest y (xs ++ ys) place apart ∙ nth_more xs ys (place - 1) x (sym (nth_rest y xs place apart) ∙ e)
-    ]
-
-map_chosen : {A B : Type 0} (f : A → B) (b : Bool) (x : A) (o : Option A) → cond b (Some (f x)) (option_map f o) ≡ option_map f (cond b (Some x) o)
-map_chosen f true x o = refl
-map_chosen f false x o = refl
-
-pub nth_map : {A B : Type 0} (f : A → B) (xs : List A) (place : ℕ) → nth (map f xs) place ≡ option_map f (nth xs place)
-nth_map f [] place = refl
-nth_map f (x ∷ xs) place =
-    ap (λ o. cond (place == 1) (Some (f x)) o) (nth_map f xs (place - 1)) ∙ map_chosen f (place == 1) x (nth xs (place - 1))
 
 -- an element changed at a place: there it is changed, elsewhere it is not
 pub changed_here : {A : Type 0} (f : A → A) (xs : List A) (place : ℕ) → nth (change_nth f xs place) place ≡ option_map f (nth xs place)

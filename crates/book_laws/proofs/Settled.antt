@@ -2,7 +2,7 @@
 use Rattle.std.proofs.Common.{◌≡◌, ◌⊎◌, inl, inr, ℕ, ◌≤◌, ◌==◌, nat_le, Bool, true, false, cond, Option, Some, None, List, [], ◌∷◌, length, refl, ap, arith}
 use Rattle.std.specs.Option.{option_map, option_and_then}
 use Rattle.sched_plain.specs.declared.entry.Filed.{Filed}
-use Rattle.sched_plain.specs.declared.moment.Moment.{Moment}
+use Rattle.plain_words.specs.declared.moment.Moment.{Moment}
 use Rattle.sched_plain.specs.declared.standing.Standing.{Standing}
 use Rattle.sched_plain.specs.declared.standing.Standing.TheVariants as standings
 use Rattle.sched_plain.specs.declared.step.Pair.{Pair}
@@ -10,18 +10,20 @@ use Rattle.sched_plain.specs.declared.step.Step.TheVariants as steps
 use Rattle.sched_plain.specs.declared.work.Work.{Work}
 use Rattle.sched_plain.specs.declared.work.Work.TheVariants as works
 use Rattle.sched_plain.specs.History.{History}
-use Rattle.sched_plain.specs.Ids.{shard_of}
-use Rattle.sched_plain.specs.Lists.{first_some, first_answer, or_else, when}
+use Rattle.plain_words.specs.Ids.{shard_of}
+use Rattle.plain_words.specs.Lists.{first_some, first_answer, or_else, when}
 use Rattle.sched_plain.specs.Changes.{changes_of}
 use Rattle.sched_plain.specs.Rows.{rows_of}
-use Rattle.sched_plain.specs.Calendar.{Calendar}
+use Rattle.expressions.specs.Calendar.{Calendar}
 use Rattle.sched_plain.specs.Standing.{standing_of}
 use Rattle.sched_plain.specs.Marks.{unentered}
 use Rattle.sched_plain.specs.Seen.{Seen, LedgerSeen, seen}
 use Rattle.sched_plain.specs.Work.{Occurrence, open_at, first_open, of_shard, completable, wanted_by, act_of, waited_for, live_of, first_entry, work_table, or_settled}
 use Rattle.sched_plain.specs.Rules.{unless_settled}
 use Rattle.sched_plain.specs.Legal.{MayFollow}
-use Rattle.book_laws.proofs.Tables.{AllNone, map_none, kind_holds}
+use Rattle.plain_words.proofs.Options.{map_none}
+use Rattle.plain_words.proofs.ListLemmas.{AllNone}
+use Rattle.book_laws.proofs.Tables.{kind_holds}
 use Rattle.book_laws.proofs.Searches.{IsWithin, none_from, none_open}
 
 -- none of these is the word that there is nothing to do

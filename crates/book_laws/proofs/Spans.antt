@@ -8,9 +8,9 @@ use Rattle.sched_plain.specs.History.{History}
 use Rattle.sched_plain.specs.Rows.{Deed, Nothing, Renews, Ends, current_of}
 use Rattle.sched_plain.specs.Zones.{read_under}
 use Rattle.sched_plain.specs.Items.{Item, cut_item, opened, items_done, is_rezoned, items_rezoned, items_zoned}
-use Rattle.sched_plain.specs.Calendar.{Calendar}
+use Rattle.expressions.specs.Calendar.{Calendar}
 use Rattle.sched_plain.specs.Occurrences.{is_within_dates, occurs, occurs_in}
-use Rattle.book_laws.proofs.Passing.{or_false}
+use Rattle.plain_words.proofs.Booleans.{or_false, second_fails}
 
 pub le_min : (i at to : ℕ) → i ≤ at → nat_le i (min at to) ≡ nat_le i to
 le_min i at to le =
@@ -28,10 +28,6 @@ cut_stays c at item i le =
 pub cuts_stay : (c : Calendar) (at : ℕ) (all : List Item) (i : ℕ) → i ≤ at → occurs_in c (map (cut_item at) all) i ≡ occurs_in c all i
 cuts_stay c at [] i le = refl
 cuts_stay c at (item ∷ all) i le = ap₂ (λ a b. a || b) (cut_stays c at item i le) (cuts_stay c at all i le)
-
-second_fails : (a b c d e : Bool) → b ≡ false → (a && b && c && d && e) ≡ false
-second_fails true b c d e fails = rw fails refl
-second_fails false b c d e fails = refl
 
 -- an item has no occurrence before it begins
 pub opened_later : (c : Calendar) (bytes : Option (List ℕ)) (created first : ℕ) (content : Schedule) (i : ℕ) → i < first

@@ -5,14 +5,14 @@ use Rattle.sched_plain.specs.declared.entry.Entry.{Entry}
 use Rattle.sched_plain.specs.declared.schedule.Policy.{Policy}
 use Rattle.sched_plain.specs.declared.standing.Standing.{Standing}
 use Rattle.sched_plain.specs.declared.standing.Standing.TheVariants as standings
-use Rattle.sched_plain.specs.declared.verdict.Outcome.{Outcome}
-use Rattle.sched_plain.specs.declared.verdict.Reason.{Reason}
-use Rattle.sched_plain.specs.declared.verdict.Reason.TheVariants as reasons
-use Rattle.sched_plain.specs.Lists.{first_some, when}
+use Rattle.sched_plain.specs.declared.outcome.Outcome.{Outcome}
+use Rattle.sched_plain.specs.declared.outcome.Reason.{Reason}
+use Rattle.sched_plain.specs.declared.outcome.Reason.TheVariants as reasons
+use Rattle.plain_words.specs.Lists.{first_some, when}
 use Rattle.sched_plain.specs.Attempts.{is_live_last}
 use Rattle.sched_plain.specs.Standing.{earliest, is_used_up, is_past_age, or_due, standing}
-use Rattle.sched_plain.specs.Rules.{same_reason, unless_due, unless_exhausted}
-use Rattle.book_laws.proofs.Tables.{when_none}
+use Rattle.sched_plain.specs.Rules.{same_reason, unless_exhausted}
+use Rattle.plain_words.proofs.ListLemmas.{when_none}
 
 -- the table of standings over what its tests found
 abbrev pub table_of : Option Outcome → Bool → Bool → Bool → Bool → ℕ → Standing
@@ -70,14 +70,7 @@ exhausted_says entry policy now reason e =
     exhausted_table entry.outcome (is_live_last entry.last) (is_used_up entry policy) (is_past_age entry policy now)
     (nat_lt now (earliest entry)) (earliest entry) reason e
 
--- what the rules of Begin and Close ask for
-pub due_is : (s : Standing) → unless_due s ≡ None → s ≡ standings.Due
-due_is (standings.Decided outcome) e = cc
-due_is standings.Live e = cc
-due_is (standings.Exhausted reason) e = cc
-due_is (standings.Waiting until) e = cc
-due_is standings.Due e = refl
-
+-- what the rule of Close asks for
 same_reason_is : (one other : Reason) → same_reason one other ≡ true → one ≡ other
 same_reason_is reasons.Attempts reasons.Attempts e = refl
 same_reason_is reasons.Attempts reasons.Age e = cc

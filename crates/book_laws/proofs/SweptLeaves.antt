@@ -10,27 +10,29 @@ use Rattle.sched_plain.specs.declared.step.Step.TheVariants as steps
 use Rattle.sched_plain.specs.declared.work.Work.{Work}
 use Rattle.sched_plain.specs.declared.work.Work.TheVariants as works
 use Rattle.sched_plain.specs.History.{History, ◌upon◌}
-use Rattle.sched_plain.specs.Ids.{shard_of}
+use Rattle.plain_words.specs.Ids.{shard_of}
 use Rattle.sched_plain.specs.Moments.{moment}
-use Rattle.sched_plain.specs.Lists.{first_answer, when, nth, some_pass}
+use Rattle.plain_words.specs.Lists.{first_answer, when, nth, some_pass}
 use Rattle.sched_plain.specs.Changes.{changes_of}
 use Rattle.sched_plain.specs.declared.row.Row.{Row}
 use Rattle.sched_plain.specs.Rows.{rows_of, current_of}
 use Rattle.sched_plain.specs.Items.{items}
 use Rattle.sched_plain.specs.Marks.{cover}
-use Rattle.sched_plain.specs.declared.moment.Moment.{Moment}
+use Rattle.plain_words.specs.declared.moment.Moment.{Moment}
 use Rattle.sched_plain.specs.Legal.{IsLegal}
-use Rattle.sched_plain.specs.Calendar.{Calendar}
+use Rattle.expressions.specs.Calendar.{Calendar}
 use Rattle.sched_plain.specs.Ledger.{ledger_of}
 use Rattle.sched_plain.specs.Entries.{entries, is_paired, filed}
 use Rattle.sched_plain.specs.Standing.{standing_of}
 use Rattle.sched_plain.specs.Seen.{LedgerSeen, seen}
 use Rattle.sched_plain.specs.Work.{of_shard, completable, wanted_by, act_of, waited_for, live_of, first_entry, is_finished}
+use Rattle.plain_words.proofs.ListLemmas.{when_none}
+use Rattle.plain_words.proofs.Options.{else_none}
+use Rattle.sched_plain.proofs.LedgerLemmas.{filed_paired}
 use Rattle.book_laws.specs.SweepLaws.{IsAtRest, NothingLeft, SweptLeavesNothing}
-use Rattle.book_laws.proofs.Tables.{when_none, then_none, moment_holds}
-use Rattle.book_laws.proofs.Searches.{IsWithin, nth_within, else_none}
+use Rattle.book_laws.proofs.Tables.{then_none, moment_holds}
+use Rattle.book_laws.proofs.Searches.{IsWithin, nth_within}
 use Rattle.book_laws.proofs.Settled.{swept_none, none_in_shard, swept_open}
-use Rattle.book_laws.proofs.FiledEdits.{filed_paired}
 use Rattle.book_laws.proofs.Covers.{unentered_is, none_from_on}
 use Rattle.book_laws.proofs.EntriesExact.{caught}
 use Rattle.book_laws.proofs.ContentsStay.{filed_there}

@@ -1,34 +1,16 @@
 -- What a step that may follow gives: each rule of its table, and that its moment is not below the last.
-use Rattle.std.proofs.Common.{◌≡◌, ℕ, ◌≤◌, ◌==◌, nat_lt, Bool, true, false, not, Option, Some, None, List, [], ◌∷◌, option_map, refl, arith}
+use Rattle.std.proofs.Common.{◌≡◌, ℕ, ◌≤◌, ◌==◌, nat_lt, not, Option, Some, None, ◌∷◌, arith}
 use Rattle.std.specs.Option.{option_and_then}
 use Rattle.std.proofs.lemmas.Bool.{not-false, ltb-false, eqb-true}
 use Rattle.sched_plain.specs.declared.step.Step.{Step}
 use Rattle.sched_plain.specs.declared.step.Step.TheVariants as steps
 use Rattle.sched_plain.specs.History.{History}
 use Rattle.sched_plain.specs.Moments.{at_of, moment}
-use Rattle.sched_plain.specs.Lists.{first_some, when}
-use Rattle.sched_plain.specs.Calendar.{Calendar}
+use Rattle.expressions.specs.Calendar.{Calendar}
 use Rattle.sched_plain.specs.Seen.{seen}
 use Rattle.sched_plain.specs.Rules.{moment_rule, kind_table}
 use Rattle.sched_plain.specs.Legal.{MayFollow}
-
--- nothing is in any of these
-abbrev pub AllNone : {A : Type 0} → List (Option A) → Type 0
-AllNone [] = Unit {0}
-AllNone (x ∷ xs) = (x ≡ None) × AllNone xs
-
-pub all_none : {A : Type 0} (xs : List (Option A)) → first_some xs ≡ None → AllNone xs
-all_none [] e = tt
-all_none (None ∷ xs) e = (refl, all_none xs e)
-all_none (Some x ∷ xs) e = cc
-
-pub when_none : {A : Type 0} (b : Bool) (why : A) → when b why ≡ None → b ≡ false
-when_none true why e = cc
-when_none false why e = refl
-
-pub map_none : {A B : Type 0} (f : A → B) (o : Option A) → option_map f o ≡ None → o ≡ None
-map_none f None e = refl
-map_none f (Some x) e = cc
+use Rattle.plain_words.proofs.ListLemmas.{AllNone, all_none, when_none}
 
 pub then_none : {A B : Type 0} (f : A → Option B) (o : Option A) (x : A) → option_and_then f o ≡ None → o ≡ Some x → f x ≡ None
 then_none f None x e there = cc

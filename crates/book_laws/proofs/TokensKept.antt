@@ -9,10 +9,11 @@ use Rattle.sched_plain.specs.declared.write.Write.{Write}
 use Rattle.sched_plain.specs.History.{History, beginning, ◌upon◌, count}
 use Rattle.sched_plain.specs.Rows.{same_text}
 use Rattle.sched_plain.specs.Tokens.{Kept, token_of, kept_by, kept_of, kept_under, kept_place}
-use Rattle.sched_plain.specs.Calendar.{Calendar}
+use Rattle.expressions.specs.Calendar.{Calendar}
 use Rattle.sched_plain.specs.Legal.{IsLegal}
+use Rattle.plain_words.proofs.Options.{map_none}
 use Rattle.book_laws.specs.TokenLaws.{HasToken, TokensStandOnce}
-use Rattle.book_laws.proofs.Tables.{kind_holds, map_none, then_none}
+use Rattle.book_laws.proofs.Tables.{kind_holds, then_none}
 use Rattle.book_laws.proofs.Places.{found_top, found_below, place_bound}
 
 -- each text is the same as itself

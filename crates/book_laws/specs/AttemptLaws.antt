@@ -1,11 +1,11 @@
 -- The attempts of a legal history.
 use Rattle.std.specs.Prelude.{◌≡◌, ℕ, ◌+◌, ◌≤◌, Option, Some, None, List, map}
 use Rattle.sched_plain.specs.declared.entry.Filed.{Filed}
-use Rattle.sched_plain.specs.declared.moment.Moment.{Moment}
+use Rattle.plain_words.specs.declared.moment.Moment.{Moment}
 use Rattle.sched_plain.specs.declared.step.Step.TheVariants as steps
 use Rattle.sched_plain.specs.History.{History, step_at}
-use Rattle.sched_plain.specs.Lists.{numbers}
-use Rattle.sched_plain.specs.Calendar.{Calendar}
+use Rattle.plain_words.specs.Lists.{numbers}
+use Rattle.expressions.specs.Calendar.{Calendar}
 use Rattle.sched_plain.specs.Ledger.{ledger_of}
 use Rattle.sched_plain.specs.Entries.{filed}
 use Rattle.sched_plain.specs.Attempts.{attempts, used}

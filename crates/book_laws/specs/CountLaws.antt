@@ -4,7 +4,7 @@ use Rattle.std.specs.List.{flat_map}
 use Rattle.sched_plain.specs.declared.counts.Counts.{Counts}
 use Rattle.sched_plain.specs.declared.step.Pair.{Pair}
 use Rattle.sched_plain.specs.History.{History}
-use Rattle.sched_plain.specs.Lists.{numbers}
+use Rattle.plain_words.specs.Lists.{numbers}
 use Rattle.sched_plain.specs.Changes.{changes_of}
 use Rattle.sched_plain.specs.Rows.{rows_of}
 use Rattle.sched_plain.specs.Ledger.{ledger_of}

@@ -2,13 +2,13 @@
 use Rattle.std.specs.Prelude.{◌≡◌, ℕ, ◌==◌, Bool, false, ◌&&◌, Option, Some, None, List, []}
 use Rattle.std.specs.List.{filter}
 use Rattle.sched_plain.specs.declared.letter.Letter.{Letter}
-use Rattle.sched_plain.specs.declared.verdict.Outcome.{Outcome}
-use Rattle.sched_plain.specs.declared.verdict.Outcome.TheVariants as outcomes
+use Rattle.sched_plain.specs.declared.outcome.Outcome.{Outcome}
+use Rattle.sched_plain.specs.declared.outcome.Outcome.TheVariants as outcomes
 use Rattle.sched_plain.specs.History.{History}
-use Rattle.sched_plain.specs.Lists.{only_if}
+use Rattle.plain_words.specs.Lists.{only_if}
 use Rattle.sched_plain.specs.Changes.{changes_of}
 use Rattle.sched_plain.specs.Rows.{same_text, rows_of, content_at}
-use Rattle.sched_plain.specs.Calendar.{Calendar}
+use Rattle.expressions.specs.Calendar.{Calendar}
 use Rattle.sched_plain.specs.Queues.{queue_of, letters}
 use Rattle.sched_plain.specs.Legal.{IsLegal}
 use Rattle.book_laws.specs.OutcomeLaws.{decision}

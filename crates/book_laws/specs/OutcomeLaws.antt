@@ -1,12 +1,12 @@
 -- The outcomes of the entries of a history.
 use Rattle.std.specs.Prelude.{◌≡◌, ℕ, ◌+◌, Option, Some, None}
 use Rattle.std.specs.Option.{option_and_then}
-use Rattle.sched_plain.specs.declared.moment.Moment.{Moment}
+use Rattle.plain_words.specs.declared.moment.Moment.{Moment}
 use Rattle.sched_plain.specs.declared.step.Step.TheVariants as steps
-use Rattle.sched_plain.specs.declared.verdict.Outcome.{Outcome}
-use Rattle.sched_plain.specs.declared.verdict.Reason.{Reason}
+use Rattle.sched_plain.specs.declared.outcome.Outcome.{Outcome}
+use Rattle.sched_plain.specs.declared.outcome.Reason.{Reason}
 use Rattle.sched_plain.specs.History.{History, ◌upon◌, Extends, first}
-use Rattle.sched_plain.specs.Calendar.{Calendar}
+use Rattle.expressions.specs.Calendar.{Calendar}
 use Rattle.sched_plain.specs.Ledger.{ledger_of}
 use Rattle.sched_plain.specs.Entries.{filed, outcome_of}
 use Rattle.sched_plain.specs.Legal.{IsLegal}
@@ -37,6 +37,7 @@ pub record CloseDecides (h : History) (at : Moment) (inc instant : ℕ) (reason 
   pub before : decision h inc instant ≡ None
   pub after : decision (steps.Close at inc instant reason upon h) inc instant ≡ Some (outcome_of reason)
 
+-- each Close of a legal history decides its entry
 abbrev pub ClosesDecide : Type 0
 ClosesDecide =
     (c : Calendar) (h : History) (at : Moment) (inc instant : ℕ) (reason : Reason)

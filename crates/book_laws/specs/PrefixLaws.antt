@@ -1,7 +1,7 @@
 -- The beginnings of a legal history.
 use Rattle.std.specs.Prelude.{ℕ}
 use Rattle.sched_plain.specs.History.{History, Extends, first}
-use Rattle.sched_plain.specs.Calendar.{Calendar}
+use Rattle.expressions.specs.Calendar.{Calendar}
 use Rattle.sched_plain.specs.Legal.{IsLegal}
 
 -- what a legal history extends is legal

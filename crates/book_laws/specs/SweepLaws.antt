@@ -1,13 +1,13 @@
 -- What a Swept leaves in a legal history.
 use Rattle.std.specs.Prelude.{◌≡◌, ℕ, false, Some, []}
 use Rattle.sched_plain.specs.declared.entry.Filed.{Filed}
-use Rattle.sched_plain.specs.declared.moment.Moment.{Moment}
+use Rattle.plain_words.specs.declared.moment.Moment.{Moment}
 use Rattle.sched_plain.specs.declared.standing.Standing.{Standing}
 use Rattle.sched_plain.specs.declared.standing.Standing.TheVariants as standings
 use Rattle.sched_plain.specs.declared.step.Step.TheVariants as steps
 use Rattle.sched_plain.specs.History.{History, ◌upon◌}
-use Rattle.sched_plain.specs.Ids.{shard_of}
-use Rattle.sched_plain.specs.Calendar.{Calendar}
+use Rattle.plain_words.specs.Ids.{shard_of}
+use Rattle.expressions.specs.Calendar.{Calendar}
 use Rattle.sched_plain.specs.Ledger.{ledger_of}
 use Rattle.sched_plain.specs.Entries.{filed}
 use Rattle.sched_plain.specs.Standing.{standing_of}

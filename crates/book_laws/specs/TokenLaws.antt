@@ -1,11 +1,11 @@
 -- The client tokens of a legal history.
 use Rattle.std.specs.Prelude.{◌≡◌, ℕ, Some, List}
-use Rattle.sched_plain.specs.declared.moment.Moment.{Moment}
+use Rattle.plain_words.specs.declared.moment.Moment.{Moment}
 use Rattle.sched_plain.specs.declared.step.Step.TheVariants as steps
 use Rattle.sched_plain.specs.declared.write.Write.{Write}
 use Rattle.sched_plain.specs.History.{History, step_at}
 use Rattle.sched_plain.specs.Tokens.{token_of}
-use Rattle.sched_plain.specs.Calendar.{Calendar}
+use Rattle.expressions.specs.Calendar.{Calendar}
 use Rattle.sched_plain.specs.Legal.{IsLegal}
 
 -- the step at this place is a Change with this token

@@ -4,7 +4,7 @@ use Rattle.std.proofs.lemmas.Bool.{cases_lt}
 use Rattle.jiff_core.specs.Calendar.{day_count, days_from_civil}
 use Rattle.jiff_core.proofs.SignedLemmas.{signed_arith}
 use Rattle.jiff_core.proofs.CalendarLemmas.{day_count-epoch, days_from_civil-day_count, day_count-day_of_year, day_count-later_year}
-use Rattle.cron_search.specs.Calendar.{day_number}
+use Rattle.cron_search.specs.CivilTime.{day_number}
 
 -- no year from 1970 on begins before 1970
 year_start : (y : ℕ) → 1970 ≤ y → 4_371_953 ≤ day_count (pos y) 1 1
@@ -14,7 +14,7 @@ year_start y low =
       | inr ge ↦ let same : y ≡ 1970 = omega arith in rw same (omega (arith, day_count-epoch))
     ]
 
-not_negative : (z : ℤ) → pos 0 ≤ℤ z → z ≡ pos (unsigned_abs z)
+pub not_negative : (z : ℤ) → pos 0 ≤ℤ z → z ≡ pos (unsigned_abs z)
 not_negative (pos n) h = refl
 not_negative (negsuc n) h = absurd (omega (arith, signed_arith))
 

@@ -2,11 +2,11 @@
 use Rattle.std.proofs.Common.{ℕ, ◌≤◌, arith, pos, IsTrue}
 use Rattle.std.proofs.lemmas.Bool.Decides.{nat_tests}
 use Rattle.jiff_core.proofs.CalendarLemmas.{days_in_month_bounds}
-use Rattle.cron_search.specs.Calendar.{IsCivilDate}
+use Rattle.cron_search.specs.CivilTime.{IsCivilDate}
 use Rattle.cron_search.specs.Fit.{has_value, has_year}
 use Rattle.cron_search.specs.Levels.{IsFittingDate}
 use Rattle.cron_search.specs.declared.date.Date.{Date}
-use Rattle.sched_plain.specs.declared.expression.CronSets.{CronSets}
+use Rattle.expressions.specs.declared.expression.CronSets.{CronSets}
 
 -- no month has more than 31 days
 pub day_small : (y m d : ℕ) → IsCivilDate y m d → d ≤ 31

@@ -4,17 +4,17 @@ use Rattle.std.proofs.lemmas.Bool.{cases_lt}
 use Rattle.jiff_core.specs.Calendar.{day_count, IsCivilDate as IsJiffDate}
 use Rattle.jiff_core.proofs.SignedLemmas.{signed_arith}
 use Rattle.jiff_core.proofs.CalendarLemmas.{day_count-lt_year, day_count-lt_month, day_count-day}
-use Rattle.cron_search.specs.Calendar.{day_number, IsCivilDate, IsCivilSecond, civil_second}
+use Rattle.cron_search.specs.CivilTime.{day_number, IsCivilDate, IsCivilSecond, civil_second}
 use Rattle.cron_search.specs.Levels.{day_key, minute_key}
-use Rattle.sched_plain.specs.declared.expression.Civil.{Civil}
-use Rattle.sched_plain.specs.declared.expression.CronSets.{CronSets}
+use Rattle.expressions.specs.declared.expression.Civil.{Civil}
+use Rattle.expressions.specs.declared.expression.CronSets.{CronSets}
 use Rattle.cron_search.specs.First.{IsFirst, HasNone}
 use Rattle.cron_search.specs.Search.{IsFittingMinute, IsFirstFit, HasNoFit}
 use Rattle.cron_search.proofs.DayNumbers.{day_number-count}
 use Rattle.cron_search.proofs.Fitting.{day_small}
 
 -- a day here is a day of the library's calendar
-library_date : (y m d : ℕ) → IsCivilDate y m d → IsJiffDate (pos y) m d
+pub library_date : (y m d : ℕ) → IsCivilDate y m d → IsJiffDate (pos y) m d
 library_date y m d day =
     ((omega (arith, signed_arith), omega (arith, signed_arith)), (day.month_low, day.month_high), (day.day_low, day.day_high))
 

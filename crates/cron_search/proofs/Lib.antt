@@ -1,7 +1,6 @@
-pub mod ShiftedSets
+mod ShiftedSets
 pub mod DayNumbers
-pub mod MonthDays
-pub mod Fitting
+mod MonthDays
+mod Fitting
 pub mod InTime
-pub mod Minutes
-pub mod RealSeconds
+mod Minutes

@@ -2,12 +2,12 @@
 use Rattle.std.proofs.Common.{◌≡◌, ℕ, ◌≤◌, arith, true, false, ◌==◌, ◌&&◌, ◌≢◌, Option, Some, None, IfSome, IfNone}
 use Rattle.std.proofs.lemmas.Bool.Decides.{nat_tests}
 use Rattle.cron_search.proofs.Fitting.{day_small}
-use Rattle.cron_search.specs.Calendar.{IsCivilDate}
+use Rattle.cron_search.specs.CivilTime.{IsCivilDate}
 use Rattle.cron_search.specs.First.{IsFirst, HasNone}
 use Rattle.cron_search.specs.Search.{IsFittingMinute}
 use Rattle.cron_search.specs.Levels.{date_key, minute_key, IsFittingDate, IsFittingTime}
-use Rattle.sched_plain.specs.declared.expression.Civil.{Civil}
-use Rattle.sched_plain.specs.declared.expression.CronSets.{CronSets}
+use Rattle.expressions.specs.declared.expression.Civil.{Civil}
+use Rattle.expressions.specs.declared.expression.CronSets.{CronSets}
 use Rattle.cron_search.specs.declared.date.Date.{Date}
 use Rattle.cron_search.specs.declared.time.TimeOfDay.{TimeOfDay}
 

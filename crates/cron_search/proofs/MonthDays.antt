@@ -1,9 +1,9 @@
 -- Days of one month: their numbers differ as the days do.
 use Rattle.std.proofs.Common.{◌≡◌, ℕ, ◌+◌, ◌-◌, ◌*◌, ◌%◌, arith, ap, pos, IsTrue}
 use Rattle.jiff_core.proofs.CalendarLemmas.{day_count-day}
-use Rattle.cron_search.specs.Calendar.{day_number, month_length, weekday_of, IsCivilDate}
+use Rattle.cron_search.specs.CivilTime.{day_number, month_length, weekday_of, IsCivilDate}
 use Rattle.cron_search.specs.Fit.{has_value, fits_day}
-use Rattle.sched_plain.specs.declared.expression.DayRule.TheVariants.{LastOf, Nth}
+use Rattle.expressions.specs.declared.expression.DayRule.TheVariants.{LastOf, Nth}
 use Rattle.std.proofs.lemmas.Bool.Decides.{nat_tests}
 use Rattle.cron_search.proofs.DayNumbers.{day_number-count}
 

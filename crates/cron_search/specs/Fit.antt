@@ -1,26 +1,17 @@
 -- Which civil minutes fit the sets of a cron expression (EventBridge Scheduler User Guide, schedule types).
 use Rattle.std.specs.Prelude.{ℕ, ◌+◌, ◌-◌, ◌/◌, Bool, ◌&&◌, ◌==◌, nat_lt, nat_le, if◌then◌else◌}
-use Rattle.std.specs.Int.{bit_at}
-use Rattle.sched_plain.specs.declared.expression.Civil.{Civil}
-use Rattle.sched_plain.specs.declared.expression.CronSets.{CronSets}
-use Rattle.sched_plain.specs.declared.expression.DayRule.{DayRule}
-use Rattle.sched_plain.specs.declared.expression.DayRule.TheVariants.{OfMonth, LastDay, NearWeekday, OfWeek, LastOf, Nth}
-use Rattle.cron_search.specs.Calendar.{month_length, weekday_of}
-
--- bit v of a set stands for the value v
-abbrev pub has_value : ℕ → ℕ → Bool
-has_value set value = bit_at set value == 1
-
--- bit i of the lower half of the years is 1970 + i, and of the upper half 2098 + i
-abbrev pub has_year : CronSets → ℕ → Bool
-has_year sets year =
-    if nat_lt year 2098 then has_value sets.years_low (year - 1970) else has_value sets.years_high (year - 2098)
+use Rattle.expressions.specs.declared.expression.Civil.{Civil}
+use Rattle.expressions.specs.declared.expression.CronSets.{CronSets}
+use Rattle.expressions.specs.declared.expression.DayRule.{DayRule}
+use Rattle.expressions.specs.declared.expression.DayRule.TheVariants.{OfMonth, LastDay, NearWeekday, OfWeek, LastOf, Nth}
+pub use Rattle.expressions.specs.Sets.{has_value, has_year}
+use Rattle.cron_search.specs.CivilTime.{month_length, saturday, sunday, weekday_of}
 
 -- the weekday closest to day n of a month, and in that month, where day n has this weekday
 abbrev pub nearest_weekday : ℕ → ℕ → ℕ → ℕ
 nearest_weekday weekday length n =
-    if weekday == 7 then (if n == 1 then 3 else n - 1)
-    else (if weekday == 1 then (if n == length then n - 2 else n + 1) else n)
+    if weekday == saturday then (if n == 1 then 3 else n - 1)
+    else (if weekday == sunday then (if n == length then n - 2 else n + 1) else n)
 
 -- the day rule allows this day: in the order of the cases
 --   a day of the set · the month's last day · the weekday closest to day n, if the month has a day n

@@ -1,12 +1,13 @@
 -- The levels of the search: years, days of a month, days, times of day and minutes, each with the
 -- place of a thing among all of its kind.
 use Rattle.std.specs.Prelude.{◌≡◌, ℕ, ◌+◌, ◌*◌, ◌≤◌, ◌<◌, IsTrue}
-use Rattle.sched_plain.specs.declared.expression.Civil.{Civil}
-use Rattle.sched_plain.specs.declared.expression.CronSets.{CronSets}
-use Rattle.sched_plain.specs.declared.expression.DayRule.{DayRule}
+use Rattle.expressions.specs.declared.expression.Civil.{Civil}
+use Rattle.expressions.specs.declared.expression.CronSets.{CronSets}
+use Rattle.expressions.specs.declared.expression.DayRule.{DayRule}
+use Rattle.expressions.specs.Years.{first_year, last_year}
 use Rattle.cron_search.specs.declared.date.Date.{Date}
 use Rattle.cron_search.specs.declared.time.TimeOfDay.{TimeOfDay}
-use Rattle.cron_search.specs.Calendar.{IsCivilDate}
+use Rattle.cron_search.specs.CivilTime.{IsCivilDate}
 use Rattle.cron_search.specs.Fit.{has_value, has_year, fits_day, fits_date, fits_time}
 
 -- a number is its own place
@@ -20,7 +21,7 @@ pub record IsValue (set end value : ℕ) : Type 0 where
 
 -- an allowed year
 pub record IsFittingYear (sets : CronSets) (year : ℕ) : Type 0 where
-  pub to_2199 : year ≤ 2199
+  pub to_2199 : year ≤ last_year
   pub has : IsTrue (has_year sets year)
 
 -- a day of that month that the rule allows
@@ -72,8 +73,8 @@ minute_key d = day_key d.year d.month d.day * 1440 + (d.hour * 60 + d.minute)
 
 -- where a search for a day may start: one day more than the month has is the next month's first
 pub record IsStart (d : Date) : Type 0 where
-  pub from_1970 : 1970 ≤ d.year
-  pub to_2199 : d.year ≤ 2199
+  pub from_1970 : first_year ≤ d.year
+  pub to_2199 : d.year ≤ last_year
   pub month_low : 1 ≤ d.month
   pub month_high : d.month ≤ 12
   pub day_low : 1 ≤ d.day

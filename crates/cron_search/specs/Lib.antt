@@ -1,4 +1,4 @@
-pub mod Calendar
+pub mod CivilTime
 pub mod Fit
 pub mod First
 pub mod Search

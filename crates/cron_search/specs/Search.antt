@@ -1,8 +1,8 @@
 -- What a search for the next fitting minute answers.
 use Rattle.std.specs.Prelude.{◌≡◌, ◌≤◌, IsTrue}
-use Rattle.sched_plain.specs.declared.expression.Civil.{Civil}
-use Rattle.sched_plain.specs.declared.expression.CronSets.{CronSets}
-use Rattle.cron_search.specs.Calendar.{IsCivilSecond, civil_second}
+use Rattle.expressions.specs.declared.expression.Civil.{Civil}
+use Rattle.expressions.specs.declared.expression.CronSets.{CronSets}
+use Rattle.cron_search.specs.CivilTime.{IsCivilSecond, civil_second}
 use Rattle.cron_search.specs.Fit.{fits}
 
 -- d is a whole minute from 1970 to 2199, and fits

@@ -1,7 +1,7 @@
 //! Days of the calendar, from 1970 to 2199.
 ghost use Rattle.std.specs.Prelude.{◌≡◌, ◌≤◌, ◌<◌, ◌^◌};
-ghost use Rattle.cron_search.specs.Calendar as Calendar;
-ghost use Rattle.cron_search.specs.Calendar.{IsCivilDate, weekday_of, month_length};
+ghost use Rattle.cron_search.specs.CivilTime as Calendar;
+ghost use Rattle.cron_search.specs.CivilTime.{IsCivilDate, weekday_of, month_length};
 
 use jiff_core::civil;
 

@@ -1,5 +1,6 @@
 //! The search for a day, by year, month and day.
 ghost use Rattle.std.specs.Prelude.{◌≡◌, ◌≤◌, IsTrue, IfSome, IfNone};
+ghost use Rattle.expressions.specs.Years.{last_year};
 ghost use Rattle.cron_search.specs.Fit.{has_value, has_year};
 ghost use Rattle.cron_search.specs.First.{IsFirst, HasNone};
 ghost use Rattle.cron_search.specs.Levels.{date_key, IsInMonth, IsInYear, IsFittingDate, IsStart};
@@ -8,7 +9,7 @@ ghost use Rattle.cron_search.specs.declared.date.Date.{Date};
 use crate::bits::next_value;
 use crate::day_rule::{allows_none, next_day};
 use crate::years::next_year;
-use sched_plain::CronSets;
+use expressions::CronSets;
 
 /// A day of the calendar. As the start of a search the day may be one more than the month has.
 #[derive(Clone, Copy, PartialEq, Eq)]
@@ -83,7 +84,7 @@ fn next_in_year(sets: &CronSets, from: Date) -> Option<Date>
 fn start_in_year(cursor: Date, year: u16) -> Date
     requires start { IsStart cursor }
     requires low { cursor.year ≤ year }
-    requires high { year ≤ 2199 }
+    requires high { year ≤ last_year }
     ensures start { IsStart result }
     ensures year { result.year ≡ year }
     ensures later { date_key cursor ≤ date_key result }

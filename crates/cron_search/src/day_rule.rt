@@ -1,6 +1,6 @@
 //! Which days of a month a day rule allows.
 ghost use Rattle.std.specs.Prelude.{◌≡◌, ℕ, ◌≤◌, IsTrue, IfSome, IfNone};
-ghost use Rattle.cron_search.specs.Calendar.{IsCivilDate};
+ghost use Rattle.cron_search.specs.CivilTime.{IsCivilDate};
 ghost use Rattle.cron_search.specs.First.{IsFirst, HasNone};
 ghost use Rattle.cron_search.specs.Fit.{fits_day};
 ghost use Rattle.cron_search.specs.Levels.{IsFittingDay, itself};
@@ -9,7 +9,7 @@ use crate::bits::{contains, next_value};
 use crate::calendar::{SATURDAY, SUNDAY, days_in_month, weekday};
 use crate::single_days::{closest_weekday, last_weekday, nth_weekday, weekday_near};
 use crate::week::next_in_week;
-use sched_plain::DayRule;
+use expressions::DayRule;
 
 /// The day, if it is not before `from`.
 fn not_before(day: Option<u8>, from: u8) -> Option<u8>

@@ -19,6 +19,3 @@ mod week;
 mod years;
 
 pub use search::{matches, next_civil};
-
-#[cfg(test)]
-mod tests;

@@ -1,19 +1,19 @@
 //! Whether a civil minute fits, and the next one that does.
 ghost use Rattle.std.specs.Prelude.{◌≡◌, ℕ, ◌+◌, ◌*◌, ◌≤◌, ◌<◌, IsTrue, IfSome, IfNone};
 ghost use Rattle.cron_search.specs.Fit.{fits};
-ghost use Rattle.cron_search.specs.Calendar.{IsCivilDate, IsCivilSecond};
+ghost use Rattle.cron_search.specs.CivilTime.{IsCivilDate, IsCivilSecond};
 ghost use Rattle.cron_search.specs.First.{IsFirst, HasNone};
 ghost use Rattle.cron_search.specs.Levels.{date_key, minute_of_day, minute_key, IsFittingDate};
 ghost use Rattle.cron_search.specs.Levels.{IsFittingTime, IsStart};
 ghost use Rattle.cron_search.specs.Search.{IsFittingMinute, IsFirstFit, HasNoFit};
-ghost use Rattle.sched_plain.specs.declared.expression.CronSets.{CronSets};
+ghost use Rattle.expressions.specs.declared.expression.CronSets.{CronSets};
 
 use crate::bits::contains;
 use crate::date::{Date, next_date};
 use crate::day_rule;
 use crate::time::{TimeOfDay, next_time};
 use crate::years::contains_year;
-use sched_plain::{Civil, CronSets};
+use expressions::{Civil, CronSets};
 
 const MIDNIGHT: TimeOfDay = TimeOfDay { hour: 0, minute: 0 };
 

@@ -1,11 +1,11 @@
 //! The day rules that allow at most one day of a month.
 ghost use Rattle.std.specs.Prelude.{◌≡◌, ℕ, ◌≤◌, IfSome};
-ghost use Rattle.cron_search.specs.Calendar.{IsCivilDate};
+ghost use Rattle.cron_search.specs.CivilTime.{IsCivilDate};
 ghost use Rattle.cron_search.specs.Fit.{nearest_weekday};
 ghost use Rattle.cron_search.specs.Levels.{IsFittingDay};
 
 use crate::calendar::{SATURDAY, SUNDAY, days_in_month, weekday};
-use sched_plain::DayRule;
+use expressions::DayRule;
 
 /// The weekday that is closest to day `n`, in a month of that length where day `n` has this weekday.
 pub fn closest_weekday(weekday: u8, length: u8, n: u8) -> u8

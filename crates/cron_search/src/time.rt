@@ -4,7 +4,7 @@ ghost use Rattle.cron_search.specs.First.{IsFirst, HasNone};
 ghost use Rattle.cron_search.specs.Levels.{minute_of_day, IsFittingTime, IsInHour};
 
 use crate::bits::{contains, next_value};
-use sched_plain::CronSets;
+use expressions::CronSets;
 
 /// An hour from 0 to 23 and a minute from 0 to 59. As the start of a search the minute may be 60:
 /// the next hour.

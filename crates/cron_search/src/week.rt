@@ -1,13 +1,13 @@
 //! The day rule of a set of weekdays.
 ghost use Rattle.std.specs.Prelude.{◌≡◌, ℕ, ◌≤◌, ◌<◌, IsTrue, IfSome, IfNone};
-ghost use Rattle.cron_search.specs.Calendar.{IsCivilDate, weekday_after};
+ghost use Rattle.cron_search.specs.CivilTime.{IsCivilDate, weekday_after};
 ghost use Rattle.cron_search.specs.First.{IsFirst, HasNone};
 ghost use Rattle.cron_search.specs.Fit.{has_value};
 ghost use Rattle.cron_search.specs.Levels.{IsFittingDay, itself};
 
 use crate::bits::next_value;
 use crate::calendar::{SATURDAY, SUNDAY, days_in_month, weekday};
-use sched_plain::DayRule;
+use expressions::DayRule;
 
 /// How many days after a day with the weekday `today` the next day of the set comes: 0 for that day.
 fn days_until(set: u8, today: u8) -> Option<u8>

@@ -1,25 +1,17 @@
 //! The years of a cron expression, in two halves of a set.
-ghost use Rattle.std.specs.Prelude.{◌≡◌, ◌≤◌, IfSome, IfNone};
+ghost use Rattle.std.specs.Prelude.{◌≡◌, ◌+◌, ◌≤◌, IfSome, IfNone};
+ghost use Rattle.expressions.specs.Years.{first_year, last_year};
 ghost use Rattle.cron_search.specs.First.{IsFirst, HasNone};
 ghost use Rattle.cron_search.specs.Fit.{has_year};
 ghost use Rattle.cron_search.specs.Levels.{IsFittingYear, itself};
 
 use crate::bits::{contains, next_value};
-use sched_plain::CronSets;
-
-/// The first year of civil time here.
-pub const FIRST_YEAR: u16 = 1970;
-
-/// The last year of civil time here.
-pub const LAST_YEAR: u16 = 2199;
-
-// The first year whose bit stands in the upper half.
-const UPPER_YEAR: u16 = FIRST_YEAR + 128;
+use expressions::{CronSets, FIRST_YEAR, LAST_YEAR, UPPER_YEAR};
 
 /// Whether the year is in the set.
 pub fn contains_year(sets: &CronSets, year: u16) -> bool
-    requires low { 1970 ≤ year }
-    requires high { year ≤ 2199 }
+    requires low { first_year ≤ year }
+    requires high { year ≤ last_year }
     ensures { result ≡ has_year sets.now year }
 {
     if year < UPPER_YEAR {
@@ -29,10 +21,10 @@ pub fn contains_year(sets: &CronSets, year: u16) -> bool
     }
 }
 
-/// The first year of the set from `from` on, up to 2199.
+/// The first year of the set from `from` on.
 pub fn next_year(sets: &CronSets, from: u16) -> Option<u16>
-    requires low { 1970 ≤ from }
-    requires high { from ≤ 2200 }
+    requires low { first_year ≤ from }
+    requires high { from ≤ last_year + 1 }
     ensures found { IfSome result (IsFirst (IsFittingYear sets.now) itself from) }
     ensures none { IfNone result (HasNone (IsFittingYear sets.now) itself from) }
 {

@@ -1,27 +1,26 @@
 -- An `at`: its form is its digits and marks, and its text gives the civil second back.
 use Rattle.std.proofs.Common.{◌≡◌, ◌≢◌, ℕ, ◌+◌, ◌*◌, ◌/◌, ◌%◌, ◌<◌, ◌≤◌, Bool, true, false, List, [], ◌∷◌, ◌++◌, refl, sym, ap, ◌∙◌, subst, arith, le-leb, ◌-◌, ◌⊎◌, inl, inr, Option, Some, None}
 use Rattle.std.specs.Prelude.{map, nat_le, nat_lt, ◌&&◌, codes, pos}
-use Rattle.sched_plain.specs.declared.expression.Civil.{Civil}
-use Rattle.sched_plain.specs.Pieces.{is_digit, number_of, same}
-use Rattle.sched_plain.specs.Expressions.{is_civil, two_digits, at_text}
-use Rattle.sched_plain.specs.ExpressionFaults.{Fault, at_fault, group_fault, groups_fault, masked}
+use Rattle.expressions.specs.declared.expression.Civil.{Civil}
+use Rattle.expressions.specs.Pieces.{is_digit, number_of, same}
+use Rattle.expressions.specs.CivilSeconds.{is_civil, two_digits}
+use Rattle.expressions.specs.ExpressionFaults.{Fault, at_fault, group_fault, groups_fault, masked}
 use Rattle.expr_grammar.specs.Reading.{civil_of, civil_fault}
-use Rattle.std.proofs.lemmas.Bool.{leb-true, ltb-true}
+use Rattle.std.proofs.lemmas.Bool.{leb-true, ltb-true, and_parts}
 use Rattle.jiff_core.specs.Calendar.{days_in_month}
 use Rattle.jiff_core.proofs.CalendarLemmas.{days_in_month_bounds}
-use Rattle.sched_plain.specs.declared.expression.Expr.TheVariants as exprs
-use Rattle.sched_plain.specs.Lists.{first_some}
-use Rattle.sched_plain.specs.Spelling.{Spells}
+use Rattle.expressions.specs.declared.expression.Expr.TheVariants as exprs
+use Rattle.plain_words.specs.Lists.{first_some}
+use Rattle.expressions.specs.Spelling.{Spells}
 use Rattle.expr_grammar.specs.Answers.{enclosed}
 use Rattle.expr_grammar.proofs.Texts.{same_is, is_same}
 use Rattle.expr_grammar.proofs.FaultLemmas.{first_none, passes, chosen_none}
-use Rattle.expr_grammar.proofs.Digits.{and_true}
 
 -- the byte is a digit or not
 pub digit_cases : (b : ℕ) (here : Bool) → is_digit b ≡ here →
     ((here ≡ true) × (48 ≤ b) × (b ≤ 57) × (masked b ≡ 48)) ⊎ ((here ≡ false) × (masked b ≡ b))
 digit_cases b true is =
-    let both = and_true (nat_le 48 b) (nat_le b 57) is in inl (refl, leb-true _ _ both.0, leb-true _ _ both.1, rw is refl)
+    let both = and_parts (nat_le 48 b) (nat_le b 57) is in inl (refl, leb-true _ _ both.0, leb-true _ _ both.1, rw is refl)
 digit_cases b false is = inr (refl, rw is refl)
 
 -- a digit as 0
@@ -101,9 +100,6 @@ groups_text high low month day hour minute second =
 abbrev pub at_inner : Civil → List ℕ
 at_inner c = groups_text (c.year / 100) c.year c.month c.day c.hour c.minute c.second
 
-pub at_text_is : (c : Civil) → at_text c ≡ codes "at(" ++ at_inner c ++ codes ")"
-at_text_is c = refl
-
 pub at_inner_masked : (c : Civil) → map masked (at_inner c) ≡ codes "0000-00-00T00:00:00"
 at_inner_masked c = simp masked_digit
 
@@ -130,11 +126,11 @@ pub real_parts : (c : Civil) → is_civil c ≡ true → IsReal c
 real_parts c is =
     let whole = sym (regroup (nat_le 1970 c.year) (nat_le c.year 2199) (nat_le 1 c.month) (nat_le c.month 12) (nat_le 1 c.day)
     (nat_le c.day (days_in_month (pos c.year) c.month)) (nat_lt c.hour 24) (nat_lt c.minute 60) (nat_lt c.second 60)) ∙ is in
-    let y = and_true _ _ whole in
-    let m = and_true _ _ y.1 in
-    let d = and_true _ _ m.1 in
-    let h = and_true _ _ d.1 in
-    let n = and_true _ _ h.1 in
+    let y = and_parts _ _ whole in
+    let m = and_parts _ _ y.1 in
+    let d = and_parts _ _ m.1 in
+    let h = and_parts _ _ d.1 in
+    let n = and_parts _ _ h.1 in
     record { year = y.0; month = m.0; day = d.0; hour = h.0; minute = n.0; second = n.1 }
 
 pub parts_real : (c : Civil) → IsReal c → is_civil c ≡ true
@@ -176,9 +172,9 @@ below n high is small = let le : n ≤ high = leb-true _ _ is in omega arith
 -- the groups of its text give a real civil second back
 pub civil_back : (c : Civil) → IsReal c → civil_of (at_inner c) ≡ c
 civil_back c r =
-    let year : c.year ≤ 2199 = leb-true _ _ (and_true (nat_le 1970 c.year) (nat_le c.year 2199) r.year).1 in
-    let month : c.month ≤ 12 = leb-true _ _ (and_true (nat_le 1 c.month) (nat_le c.month 12) r.month).1 in
-    let day : c.day ≤ days_in_month (pos c.year) c.month = leb-true _ _ (and_true (nat_le 1 c.day) _ r.day).1 in
+    let year : c.year ≤ 2199 = leb-true _ _ (and_parts (nat_le 1970 c.year) (nat_le c.year 2199) r.year).1 in
+    let month : c.month ≤ 12 = leb-true _ _ (and_parts (nat_le 1 c.month) (nat_le c.month 12) r.month).1 in
+    let day : c.day ≤ days_in_month (pos c.year) c.month = leb-true _ _ (and_parts (nat_le 1 c.day) _ r.day).1 in
     let high : days_in_month (pos c.year) c.month ≤ 31 = (days_in_month_bounds (pos c.year) c.month).0 in
     let hour : c.hour < 24 = ltb-true _ _ r.hour in
     let minute : c.minute < 60 = ltb-true _ _ r.minute in

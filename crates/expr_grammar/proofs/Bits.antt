@@ -1,5 +1,6 @@
 -- Lemmas on sets of bits.
 use Rattle.std.proofs.Common.{◌≡◌, ℕ, zero, suc, ◌+◌, ◌-◌, ◌*◌, ◌^◌, ◌%◌, ◌<◌, ◌≤◌, Bool, true, false, List, [], ◌∷◌, ◌++◌, refl, sym, ap, ◌∙◌, cond, arith, max, subst, add-zero, add_comm, lit<}
+use Rattle.plain_words.proofs.Booleans.{or_false, or_assoc}
 use Rattle.std.specs.Prelude.{◌||◌, nat_lt}
 use Rattle.std.specs.Int.{bit_at}
 use Rattle.std.specs.Int.RustNames.{bit_or}
@@ -7,8 +8,8 @@ use Rattle.std.specs.List.{list_any}
 use Rattle.std.proofs.Math.Nat.{pow-suc, pow-le-pow_right, mod-le}
 use Rattle.std.proofs.lemmas.Bool.{ltb-true, ltb-false}
 use Rattle.std.proofs.lemmas.Nat.Bits.{bit_at_or, bit_at_cat_low, bit_at_cat_high, bit_at_above, same_from_bits}
-use Rattle.sched_plain.specs.CronItems as cron
-use Rattle.sched_plain.specs.CronItems.{bits_below, contains, years_of}
+use Rattle.expressions.specs.CronItems as cron
+use Rattle.expressions.specs.CronItems.{bits_below, contains, years_of}
 
 -- a test as a bit
 abbrev pub bit : Bool → ℕ
@@ -94,19 +95,11 @@ one_bit_fits low k small within =
     let whole : 1 * 2 ^ k % 2 ^ 128 ≤ 1 * 2 ^ k = mod-le (1 * 2 ^ k) (2 ^ 128) in
     omega arith
 
-pub or_false : (a : Bool) → (a || false) ≡ a
-or_false true = refl
-or_false false = refl
-
 -- the years of one item
 pub years_of_one : (first : ℕ) (item : cron.Item) → bits_below (λ i. contains (first + i) item) 128 ≡ years_of first (item ∷ [])
 unfolding years_of
 years_of_one first item =
     bits_below_same (λ i. contains (first + i) item) (λ i. list_any (contains (first + i)) (item ∷ [])) 128 (λ i within. sym (or_false (contains (first + i) item)))
-
-pub or_assoc : (a b d : Bool) → ((a || b) || d) ≡ (a || (b || d))
-or_assoc true b d = refl
-or_assoc false b d = refl
 
 any_append : (v : ℕ) (all : List cron.Item) (item : cron.Item) → (list_any (contains v) all || list_any (contains v) (item ∷ [])) ≡ list_any (contains v) (all ++ item ∷ [])
 any_append v [] item = refl

@@ -2,14 +2,15 @@
 use Rattle.std.proofs.Common.{◌≡◌, ℕ, ◌≤◌, List, [], ◌∷◌, ◌++◌, refl, ap, append_assoc, lit≤}
 use Rattle.std.specs.Prelude.{codes, map}
 use Rattle.std.specs.List.{join_with_byte}
-use Rattle.sched_plain.specs.declared.expression.CronSets.{CronSets}
-use Rattle.sched_plain.specs.declared.expression.Expr.{Expr}
-use Rattle.sched_plain.specs.declared.expression.Expr.TheVariants as exprs
-use Rattle.sched_plain.specs.Canonical.{canonical, cron_text, days_text, has_bit, has_year, set_text, week_text}
-use Rattle.sched_plain.specs.CronItems as cron
-use Rattle.sched_plain.specs.CronItems.{set_of}
-use Rattle.sched_plain.specs.Pieces.{words}
-use Rattle.sched_plain.specs.Spelling.{Fields, IsValidExpression, SpellFields, Spells, SpellsCron, SpellsField}
+use Rattle.expressions.specs.declared.expression.CronSets.{CronSets}
+use Rattle.expressions.specs.declared.expression.Expr.{Expr}
+use Rattle.expressions.specs.declared.expression.Expr.TheVariants as exprs
+use Rattle.expressions.specs.Canonical.{canonical, cron_text, days_text, set_text, week_text}
+use Rattle.expressions.specs.Sets.{has_value, has_year}
+use Rattle.expressions.specs.CronItems as cron
+use Rattle.expressions.specs.CronItems.{set_of}
+use Rattle.expressions.specs.Pieces.{words}
+use Rattle.expressions.specs.Spelling.{Fields, IsValidExpression, SpellFields, Spells, SpellsCron, SpellsField}
 use Rattle.expr_grammar.proofs.DaysBack.{DaysBack, days_back}
 use Rattle.expr_grammar.proofs.ItemKinds.{in_plain, in_field, plain_has}
 use Rattle.expr_grammar.proofs.LackLaws.{AllFilled, AllLack, joined_bare, words_joined}
@@ -123,13 +124,13 @@ cron_back text sets s = record {
   }
 
   minutes_text : List ℕ
-  minutes_text = set_text cron.minutes (has_bit sets.minutes)
+  minutes_text = set_text cron.minutes (has_value sets.minutes)
 
   hours_text : List ℕ
-  hours_text = set_text cron.hours (has_bit sets.hours)
+  hours_text = set_text cron.hours (has_value sets.hours)
 
   months_text : List ℕ
-  months_text = set_text cron.month (has_bit sets.months)
+  months_text = set_text cron.month (has_value sets.months)
 
   years_text : List ℕ
   years_text = set_text cron.year (has_year sets)

@@ -1,15 +1,15 @@
 -- What the six fields give together: the sets that their words spell, or the fault of the two day fields.
 use Rattle.std.proofs.Common.{◌≡◌, ℕ, Bool, true, false, List, [], ◌∷◌, refl, sym, ap, ◌∙◌, subst, cond, None, lit<, lit≤}
 use Rattle.std.specs.Prelude.{codes, ◌&&◌, ◌||◌}
-use Rattle.sched_plain.specs.declared.expression.CronSets.{CronSets}
-use Rattle.sched_plain.specs.declared.expression.DayRule.{DayRule}
-use Rattle.sched_plain.specs.Lists.{head}
-use Rattle.sched_plain.specs.declared.expression.Expr.TheVariants as exprs
-use Rattle.sched_plain.specs.Pieces.{has_bare_ends, placed_words, same}
-use Rattle.sched_plain.specs.CronItems as cron
-use Rattle.sched_plain.specs.CronItems.{row, set_of, years_of}
-use Rattle.sched_plain.specs.Spelling.{Spells, give_no_rule, month_rule, week_rule, IsDayRule}
-use Rattle.sched_plain.specs.ExpressionFaults.{days_fault}
+use Rattle.expressions.specs.declared.expression.CronSets.{CronSets}
+use Rattle.expressions.specs.declared.expression.DayRule.{DayRule}
+use Rattle.plain_words.specs.Lists.{head}
+use Rattle.expressions.specs.declared.expression.Expr.TheVariants as exprs
+use Rattle.expressions.specs.Pieces.{has_bare_ends, placed_words, same}
+use Rattle.expressions.specs.CronItems as cron
+use Rattle.expressions.specs.CronItems.{row, set_of, years_of}
+use Rattle.expressions.specs.Spelling.{Spells, give_no_rule, month_rule, week_rule, IsDayRule}
+use Rattle.expressions.specs.ExpressionFaults.{days_fault}
 use Rattle.expr_grammar.specs.declared.cron.AllItems.{AllItems}
 use Rattle.expr_grammar.specs.declared.cron.Fields.{Fields}
 use Rattle.expr_grammar.specs.declared.items.Items.{Items}

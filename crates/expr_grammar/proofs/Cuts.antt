@@ -8,7 +8,7 @@ use Rattle.std.proofs.lemmas.List.Sums.{passes_at_first}
 use Rattle.std.proofs.Math.Seq.{drop-cons}
 use Rattle.std.proofs.lemmas.List.Sums.{prefix_len-le-length}
 use Rattle.std.specs.List.{position_or_len}
-use Rattle.sched_plain.specs.Pieces.{Piece, cut, placed_words, placed_words_among}
+use Rattle.expressions.specs.Pieces.{Piece, cut, placed_words, placed_words_among}
 
 -- where the first byte c stands, or the length
 abbrev pub first_place : ℕ → List ℕ → ℕ

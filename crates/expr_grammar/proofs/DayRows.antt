@@ -2,11 +2,10 @@
 use Rattle.std.proofs.Common.{◌≡◌, ℕ, ◌≤◌, Bool, true, false, ◌++◌, refl, ap, arith, Option, Some, None}
 use Rattle.std.specs.Prelude.{codes, decimal, ◌==◌, ◌&&◌}
 use Rattle.std.specs.Fmt.{digits}
-use Rattle.std.proofs.lemmas.Bool.{eqb-true}
-use Rattle.sched_plain.specs.Canonical.{all_pass}
-use Rattle.sched_plain.specs.CronItems as cron
-use Rattle.sched_plain.specs.CronItems.{row}
-use Rattle.expr_grammar.proofs.Digits.{and_true}
+use Rattle.std.proofs.lemmas.Bool.{eqb-true, and_parts}
+use Rattle.expressions.specs.Canonical.{all_pass}
+use Rattle.expressions.specs.CronItems as cron
+use Rattle.expressions.specs.CronItems.{row}
 use Rattle.expr_grammar.proofs.RunLaws.{pass_at}
 
 -- the item is the day from Monday to Friday closest to this day
@@ -53,7 +52,7 @@ nth_found n k (Some cron.saturday) is = cc
 nth_found n k (Some (cron.near_weekday m)) is = cc
 nth_found n k (Some (cron.last_of m)) is = cc
 nth_found n k (Some (cron.nth_of m j)) is =
-    let both_same = and_true (m == n) (j == k) is in
+    let both_same = and_parts (m == n) (j == k) is in
     let one : m ≡ n = eqb-true m n both_same.0 in
     let other : j ≡ k = eqb-true j k both_same.1 in
     λ t. Some (cron.nth_of (one t) (other t))

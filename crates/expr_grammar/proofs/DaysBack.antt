@@ -1,17 +1,17 @@
 -- The two day fields that are printed of a day rule are read back as the rule.
 use Rattle.std.proofs.Common.{◌≡◌, ℕ, ◌^◌, ◌<◌, ◌≤◌, Bool, true, false, cond, List, [], ◌∷◌, ◌++◌, length, refl, sym, ap, ◌∙◌, subst, arith, lit<, lit≤, length-append, Some}
 use Rattle.std.specs.Prelude.{map, codes, decimal, nat_le, ◌==◌, ◌&&◌, ◌||◌}
-use Rattle.std.proofs.lemmas.Bool.{leb-true}
-use Rattle.sched_plain.specs.declared.expression.DayRule.{DayRule}
-use Rattle.sched_plain.specs.declared.expression.DayRule.TheVariants as rules
-use Rattle.sched_plain.specs.Canonical.{days_text, week_text, has_bit, set_text}
-use Rattle.sched_plain.specs.CronItems as cron
-use Rattle.sched_plain.specs.CronItems.{is_in_range, is_value, row, set_of}
-use Rattle.sched_plain.specs.Pieces.{cut, is_digit}
-use Rattle.sched_plain.specs.Spelling.{AreRows, IsDayRule, SpellsField, give_no_rule, month_rule, week_rule}
+use Rattle.std.proofs.lemmas.Bool.{leb-true, and_parts}
+use Rattle.expressions.specs.declared.expression.DayRule.{DayRule}
+use Rattle.expressions.specs.declared.expression.DayRule.TheVariants as rules
+use Rattle.expressions.specs.Canonical.{days_text, week_text, set_text}
+use Rattle.expressions.specs.Sets.{has_value}
+use Rattle.expressions.specs.CronItems as cron
+use Rattle.expressions.specs.CronItems.{is_in_range, is_value, row, set_of}
+use Rattle.expressions.specs.Pieces.{cut, is_digit}
+use Rattle.expressions.specs.Spelling.{AreRows, IsDayRule, SpellsField, give_no_rule, month_rule, week_rule}
 use Rattle.expr_grammar.proofs.DayRows.{last_row_is, near_row_is, nth_row_is}
 use Rattle.expr_grammar.proofs.DecimalLaws.{written}
-use Rattle.expr_grammar.proofs.Digits.{and_true}
 use Rattle.expr_grammar.proofs.ItemKinds.{HasValue, first_in_field, saturday_has, some_item, values_have}
 use Rattle.expr_grammar.proofs.LackLaws.{Lacks, cut_lacking, digits_lack, lacks_append}
 use Rattle.expr_grammar.proofs.QuestionLaws.{question_in_month, question_in_week}
@@ -61,7 +61,7 @@ last_day = one_item cron.day_of_month (codes "L") cron.last_day (refl, tt) (refl
 -- the bounds of a value
 bounds : (field : cron.Field) (n : ℕ) → is_value field n ≡ true → (cron.least field ≤ n) × (n ≤ cron.greatest field)
 bounds field n is =
-    let parts = and_true (nat_le (cron.least field) n) (nat_le n (cron.greatest field)) is in (leb-true _ _ parts.0, leb-true _ _ parts.1)
+    let parts = and_parts (nat_le (cron.least field) n) (nat_le n (cron.greatest field)) is in (leb-true _ _ parts.0, leb-true _ _ parts.1)
 
 filled_behind : (n : ℕ) (text : List ℕ) → n < 2 ^ 64 → 0 < length (decimal n ++ text)
 filled_behind n text small = let w = written n small in omega (arith, w.some, length-append (decimal n) text)
@@ -96,8 +96,8 @@ nth_lacks c n k high few bare apart =
 
 nth_day : (n k : ℕ) → is_in_range cron.day_of_week (cron.nth_of n k) ≡ true → DayText cron.day_of_week (decimal n ++ codes "#" ++ decimal k) (cron.nth_of n k ∷ [])
 nth_day n k is =
-    let parts = and_true (is_value cron.day_of_week n && nat_le 1 k) (nat_le k 5) is in
-    let inner = and_true (is_value cron.day_of_week n) (nat_le 1 k) parts.0 in
+    let parts = and_parts (is_value cron.day_of_week n && nat_le 1 k) (nat_le k 5) is in
+    let inner = and_parts (is_value cron.day_of_week n) (nat_le 1 k) parts.0 in
     let b = bounds cron.day_of_week n inner.0 in
     let low : 1 ≤ n = b.0 in
     let high : n ≤ 7 = b.1 in
@@ -109,7 +109,7 @@ nth_day n k is =
     (nth_row_is n k low high some few) is
 
 -- the printed values of a set of days
-set_days : (field : cron.Field) (set : ℕ) (b : FieldBack field set) → DayText field (set_text field (has_bit set)) (map run_item (b.back.first ∷ b.back.more))
+set_days : (field : cron.Field) (set : ℕ) (b : FieldBack field set) → DayText field (set_text field (has_value set)) (map run_item (b.back.first ∷ b.back.more))
 set_days field set b = record { spelled = b.back.spelled; filled = b.back.filled; lacks = b.back.lacks }
 
 of_month : (all : List cron.Item) → AllInRange cron.day_of_month all → HasValue cron.day_of_month all → DaysBack (rules.OfMonth (set_of cron.day_of_month all))

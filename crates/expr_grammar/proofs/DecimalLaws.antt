@@ -1,12 +1,12 @@
 -- Decimals are read back.
 use Rattle.std.proofs.Common.{◌≡◌, ℕ, ◌+◌, ◌*◌, ◌-◌, ◌/◌, ◌%◌, ◌^◌, ◌<◌, ◌≤◌, true, List, [], ◌∷◌, ◌++◌, length, refl, ap, ◌∙◌, arith, le-leb, lit<, length-append, Some}
+use Rattle.std.proofs.lemmas.Bool.{and_parts}
 use Rattle.std.specs.Prelude.{nat_le, decimal}
 use Rattle.std.specs.List.{list_all}
 use Rattle.std.proofs.lemmas.Fmt.{decimal_by_steps, decimal_step, decimal_digit, length-decimal-le}
-use Rattle.sched_plain.specs.Pieces.{is_digit, is_number, number_from, number_of}
-use Rattle.sched_plain.specs.CronItems as cron
-use Rattle.sched_plain.specs.CronItems.{is_value_number, value}
-use Rattle.expr_grammar.proofs.Digits.{and_true}
+use Rattle.expressions.specs.Pieces.{is_digit, is_number, number_from, number_of}
+use Rattle.expressions.specs.CronItems as cron
+use Rattle.expressions.specs.CronItems.{is_value_number, value}
 
 -- a text of digits that stands for the number
 pub record IsWritten (n : ℕ) (text : List ℕ) : Type 0 where
@@ -21,7 +21,7 @@ number_behind n (b ∷ bs) d = number_behind (n * 10 + (b - 48)) bs d
 digits_behind : (ds : List ℕ) (d : ℕ) → list_all is_digit ds ≡ true → is_digit d ≡ true → list_all is_digit (ds ++ d ∷ []) ≡ true
 digits_behind [] d all one = rw one refl
 digits_behind (b ∷ bs) d all one =
-    let parts = and_true (is_digit b) (list_all is_digit bs) all in rw parts.0 (digits_behind bs d parts.1 one)
+    let parts = and_parts (is_digit b) (list_all is_digit bs) all in rw parts.0 (digits_behind bs d parts.1 one)
 
 digit_is : (d : ℕ) → d < 10 → is_digit (48 + d) ≡ true
 digit_is d small =

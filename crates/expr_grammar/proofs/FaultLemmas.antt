@@ -1,25 +1,17 @@
 -- Lemmas on first faults.
 use Rattle.std.proofs.Common.{◌≡◌, Bool, true, false, List, ◌∷◌, refl, cond, Option, Some, None}
 use Rattle.std.specs.Prelude.{not}
-use Rattle.sched_plain.specs.Lists.{first_some, when}
+use Rattle.plain_words.specs.Lists.{first_some, when}
 
 -- none among a list is none at its head and none behind
 pub first_none : {A : Type 0} (x : Option A) (more : List (Option A)) → first_some (x ∷ more) ≡ None → (x ≡ None) × (first_some more ≡ None)
 first_none None more is = (refl, is)
 first_none (Some x) more is = cc
 
-pub none_first : {A : Type 0} (x : Option A) (more : List (Option A)) → x ≡ None → first_some more ≡ None → first_some (x ∷ more) ≡ None
-none_first None more is rest = rest
-none_first (Some x) more is rest = cc
-
 -- no fault by a test: it passes
 pub passes : {A : Type 0} (test : Bool) (x : A) → when (not test) x ≡ None → test ≡ true
 passes true x is = refl
 passes false x is = cc
-
-pub fails : {A : Type 0} (test : Bool) (x : A) → when test x ≡ None → test ≡ false
-fails false x is = refl
-fails true x is = cc
 
 -- a choice that is none where the other choice is not
 pub chosen_none : {A : Type 0} (test : Bool) (x : Option A) (y : A) → cond test x (Some y) ≡ None → (test ≡ true) × (x ≡ None)

@@ -2,12 +2,12 @@
 use Rattle.std.proofs.Common.{◌≡◌, ℕ, ◌+◌, Bool, true, false, List, [], ◌∷◌, ◌++◌, length, refl, sym, ap, ◌∙◌, arith, le-leb, suc, append_assoc, Option, Some, None}
 use Rattle.std.specs.Prelude.{◌&&◌, ◌||◌, not, nat_le}
 use Rattle.std.specs.List.{list_any}
-use Rattle.sched_plain.specs.Lists.{first_some, when}
-use Rattle.sched_plain.specs.Pieces.{cut, placed}
-use Rattle.sched_plain.specs.CronItems as cron
-use Rattle.sched_plain.specs.CronItems.{row}
-use Rattle.sched_plain.specs.Spelling.{AreRows, IsRow, may_stand_together}
-use Rattle.sched_plain.specs.ExpressionFaults.{Fault, fault_at, field_fault, is_alone, item_fault, item_faults, mix_fault}
+use Rattle.plain_words.specs.Lists.{first_some, when}
+use Rattle.expressions.specs.Pieces.{cut, placed}
+use Rattle.expressions.specs.CronItems as cron
+use Rattle.expressions.specs.CronItems.{row}
+use Rattle.expressions.specs.Spelling.{AreRows, IsRow, may_stand_together}
+use Rattle.expressions.specs.ExpressionFaults.{Fault, fault_at, field_fault, is_alone, item_fault, item_faults, mix_fault}
 use Rattle.expr_grammar.specs.declared.items.Items.{Items}
 use Rattle.expr_grammar.specs.Items.{Summarizes, IsRead}
 
@@ -45,13 +45,6 @@ progress_more field from word at rest piece behind kept next item p parts long f
   summary = more p.done p.summary;
   within = (let w = p.within in omega (arith, w));
 }
-
--- the last item has a fault, or one that is not the last
-pub progress_fault : (field : cron.Field) (from : ℕ) (word : List ℕ) (at : ℕ) (rest piece : List ℕ) (others : List (List ℕ)) (kept : Items) (fault : Fault) →
-    Progress field from word at rest kept → cut 44 rest ≡ piece ∷ others → item_fault field at (row field piece) ≡ Some fault →
-    first_some (item_faults field (placed from (cut 44 word))) ≡ Some fault
-progress_fault field from word at rest piece others kept fault p parts is =
-    p.faults ∙ ap (λ x. first_some (item_faults field (placed at x))) parts ∙ (rw is refl)
 
 -- all items are read
 pub progress_end : (field : cron.Field) (from : ℕ) (word : List ℕ) (at : ℕ) (rest : List ℕ) (kept next : Items) (item : cron.Item) →

@@ -5,7 +5,7 @@ use Rattle.std.specs.List.{starts_with, ends_with}
 use Rattle.std.proofs.Math.Seq.{take-append_seam, drop-append_seam}
 use Rattle.std.proofs.lemmas.List.{take-append-drop, take_all, drop-drop}
 use Rattle.std.proofs.lemmas.Bool.{ltb-true, ltb-false, false≢true}
-use Rattle.sched_plain.specs.Pieces.{inside}
+use Rattle.expressions.specs.Pieces.{inside}
 use Rattle.expr_grammar.specs.Answers.{enclosed}
 use Rattle.expr_grammar.proofs.Texts.{same_is, is_same}
 
@@ -53,10 +53,3 @@ whole opening text starts ends long =
     ∙ ap (λ x. x ++ drop (length opening) text) (sym front)
     ∙ ap (λ x. opening ++ x) rest
     ∙ sym (append_assoc opening (take count (drop (length opening) text)) (codes ")"))
-
--- what is found inside is enclosed
-pub inside_some : (opening text inner : List ℕ) → starts_with nat_eq text opening ≡ true → ends_with nat_eq text (codes ")") ≡ true →
-    length opening < length text → inner ≡ take (length text - length opening - 1) (drop (length opening) text) →
-    (inside opening text ≡ Some inner) × (text ≡ enclosed opening inner)
-inside_some opening text inner starts ends long is =
-    (rw (starts, ends) (ap (λ x. Some x) (sym is)), whole opening text starts ends long ∙ ap (enclosed opening) (sym is))

@@ -4,13 +4,12 @@ use Rattle.std.specs.Prelude.{map, codes, nat_le, ◌&&◌, ◌==◌}
 use Rattle.std.specs.List.{list_any}
 use Rattle.std.specs.Option.{option_map, option_and_then}
 use Rattle.std.proofs.Math.Nat.{zero-mod}
-use Rattle.std.proofs.lemmas.Bool.{leb-true, or_left}
-use Rattle.sched_plain.specs.Lists.{first_some, when}
-use Rattle.sched_plain.specs.Pieces.{cut, same, upper}
-use Rattle.sched_plain.specs.CronItems as cron
-use Rattle.sched_plain.specs.CronItems.{row, row_of_parts, every_row, one_row, on_row, range_row, alone_row, question_row, letter_row, near_row, last_row, nth_row, nth_parts, both, value, before_letter, halves, step_in, contains, is_in_range, is_value}
-use Rattle.sched_plain.specs.Spelling.{AreRows}
-use Rattle.expr_grammar.proofs.Digits.{and_true}
+use Rattle.std.proofs.lemmas.Bool.{leb-true, or_left, and_parts}
+use Rattle.plain_words.specs.Lists.{first_some, when}
+use Rattle.expressions.specs.Pieces.{cut, same, upper}
+use Rattle.expressions.specs.CronItems as cron
+use Rattle.expressions.specs.CronItems.{row, row_of_parts, every_row, one_row, on_row, range_row, alone_row, question_row, letter_row, near_row, last_row, nth_row, nth_parts, both, value, before_letter, halves, step_in, contains, is_in_range, is_value}
+use Rattle.expressions.specs.Spelling.{AreRows}
 use Rattle.expr_grammar.proofs.RowLaws.{some_part}
 use Rattle.expr_grammar.proofs.SetLaws.{AllInRange, false_le}
 
@@ -172,9 +171,9 @@ pub record HasValue (field : cron.Field) (all : List cron.Item) : Type 0 where
 
 pub values_have : (field : cron.Field) (from to by : ℕ) (more : List cron.Item) → is_in_range field (cron.values from to by) ≡ true → HasValue field (cron.values from to by ∷ more)
 values_have field from to by more in_range =
-    let bounds = (and_true (is_value field from && is_value field to && nat_le from to) (nat_le 1 by) in_range).0 in
-    let ends = and_true (is_value field from && is_value field to) (nat_le from to) bounds in
-    let first = and_true (nat_le (cron.least field) from) (nat_le from (cron.greatest field)) (and_true (is_value field from) (is_value field to) ends.0).0 in
+    let bounds = (and_parts (is_value field from && is_value field to && nat_le from to) (nat_le 1 by) in_range).0 in
+    let ends = and_parts (is_value field from && is_value field to) (nat_le from to) bounds in
+    let first = and_parts (nat_le (cron.least field) from) (nat_le from (cron.greatest field)) (and_parts (is_value field from) (is_value field to) ends.0).0 in
     let here : nat_le from from ≡ true = le-leb _ _ (omega arith) in
     let nothing : from - from ≡ 0 = omega arith in
     let step : (((from - from) % by) == 0) ≡ true = eq-eqb _ _ (ap (λ n. n % by) nothing ∙ zero-mod by) in
@@ -204,9 +203,9 @@ plain_has field word (item ∷ more) plain are in_range = by_item item (ap (λ f
 -- no value before the least is one of items in range
 contains_before : (field : cron.Field) (item : cron.Item) (v : ℕ) → cron.least field ≤ 7 → is_in_range field item ≡ true → v < cron.least field → contains v item ≡ false
 contains_before field (cron.values from to by) v week in_range before =
-    let bounds = (and_true (is_value field from && is_value field to && nat_le from to) (nat_le 1 by) in_range).0 in
-    let ends = (and_true (is_value field from && is_value field to) (nat_le from to) bounds).0 in
-    let first : cron.least field ≤ from = leb-true _ _ (and_true (nat_le (cron.least field) from) (nat_le from (cron.greatest field)) (and_true (is_value field from) (is_value field to) ends).0).0 in
+    let bounds = (and_parts (is_value field from && is_value field to && nat_le from to) (nat_le 1 by) in_range).0 in
+    let ends = (and_parts (is_value field from && is_value field to) (nat_le from to) bounds).0 in
+    let first : cron.least field ≤ from = leb-true _ _ (and_parts (nat_le (cron.least field) from) (nat_le from (cron.greatest field)) (and_parts (is_value field from) (is_value field to) ends).0).0 in
     let off : nat_le from v ≡ false = false_le from v (omega arith) in
     rw off refl
 contains_before field cron.no_rule v week in_range before = refl

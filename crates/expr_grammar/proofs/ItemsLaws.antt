@@ -1,14 +1,14 @@
 -- Lemmas on the items of a field, taken one by one.
 use Rattle.std.proofs.Common.{◌≡◌, Bool, List, [], ◌∷◌, ◌++◌, length, refl, sym, ap, ◌∙◌, arith, le-leb, length-append, Option, Some, None}
+use Rattle.plain_words.proofs.Booleans.{or_false}
 use Rattle.std.specs.Prelude.{◌||◌, nat_le, unwrap_or, is_some}
 use Rattle.std.specs.List.{list_any}
 use Rattle.std.specs.Option.{option_map}
 use Rattle.std.proofs.lemmas.List.Folds.{list_any-append}
-use Rattle.sched_plain.specs.Lists.{head}
-use Rattle.sched_plain.specs.CronItems as cron
+use Rattle.plain_words.specs.Lists.{head}
+use Rattle.expressions.specs.CronItems as cron
 use Rattle.expr_grammar.specs.declared.item.Item.{Item}
 use Rattle.expr_grammar.specs.Items.{item_of}
-use Rattle.expr_grammar.proofs.Bits.{or_false}
 
 pub first_more : (first : Option Item) (item : Item) (all : List cron.Item) → option_map item_of first ≡ head all →
     option_map item_of (Some (unwrap_or first item)) ≡ head (all ++ item_of item ∷ [])

@@ -2,10 +2,9 @@
 use Rattle.std.proofs.Common.{◌≡◌, ℕ, suc, ◌-◌, ◌<◌, true, false, List, [], ◌∷◌, ◌++◌, length, get_or, refl, sym, ap, ◌∙◌, arith, ne_eqb}
 use Rattle.std.specs.Prelude.{◌==◌, slice_index}
 use Rattle.std.specs.List.{join_with_byte, list_all}
-use Rattle.std.proofs.lemmas.Bool.{false≢true}
-use Rattle.sched_plain.specs.Pieces.{cut, has_bare_ends, is_digit, words, words_among}
+use Rattle.std.proofs.lemmas.Bool.{false≢true, and_parts}
+use Rattle.expressions.specs.Pieces.{cut, has_bare_ends, is_digit, words, words_among}
 use Rattle.expr_grammar.proofs.Cuts.{same_byte}
-use Rattle.expr_grammar.proofs.Digits.{and_true}
 
 -- no byte of the text is c
 abbrev pub Lacks : ℕ → List ℕ → Type 0
@@ -30,7 +29,7 @@ lacks_append c (x ∷ a) b la lb = (la.0, lacks_append c a b la.1 lb)
 pub digits_lack : (c : ℕ) (text : List ℕ) → is_digit c ≡ false → list_all is_digit text ≡ true → Lacks c text
 digits_lack c [] bare digits = tt
 digits_lack c (b ∷ bs) bare digits =
-    let parts = and_true (is_digit b) (list_all is_digit bs) digits in
+    let parts = and_parts (is_digit b) (list_all is_digit bs) digits in
     (ne_eqb b c (λ e. absurd (false≢true (sym bare ∙ ap is_digit (sym e) ∙ parts.0))), digits_lack c bs bare parts.1)
 
 -- a text that lacks the byte is one part

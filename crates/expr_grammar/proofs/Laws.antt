@@ -1,19 +1,20 @@
 -- A text that spells an expression has no fault, and spells no other.
 use Rattle.std.proofs.Common.{◌≡◌, ℕ, ◌+◌, Bool, true, false, List, [], ◌∷◌, length, refl, sym, ap, ◌∙◌, subst, arith, Option, Some, None, Result, Ok, Err}
+use Rattle.std.proofs.lemmas.Bool.{not-true}
 use Rattle.std.specs.Prelude.{codes, ◌&&◌, ◌||◌, not, slice_index, if◌then◌else◌, ◌↔◌, IfOk}
-use Rattle.sched_plain.specs.declared.expression.Civil.{Civil}
-use Rattle.sched_plain.specs.declared.expression.CronSets.{CronSets}
-use Rattle.sched_plain.specs.declared.expression.DayRule.{DayRule}
-use Rattle.sched_plain.specs.declared.expression.Expr.{Expr}
-use Rattle.sched_plain.specs.declared.expression.Expr.TheVariants as exprs
-use Rattle.sched_plain.specs.declared.expression.Unit.{Unit as RateUnit}
-use Rattle.sched_plain.specs.Lists.{first_some, when}
-use Rattle.sched_plain.specs.Pieces.{Piece, cut, has_bare_ends, inside, placed, placed_words, same, words}
-use Rattle.sched_plain.specs.Expressions.{is_civil, at_text}
-use Rattle.sched_plain.specs.CronItems as cron
-use Rattle.sched_plain.specs.CronItems.{is_in_range, row}
-use Rattle.sched_plain.specs.Spelling.{AreRateWords, AreRows, Fields, IsDayRule, IsValidExpression, SpellFields, SpellsCron, SpellsField, SpellsRate, Spells, give_no_rule, month_rule, sets_of, week_rule}
-use Rattle.sched_plain.specs.ExpressionFaults.{Fault, at_fault, cron_fault, days_fault, fault, fault_at, fault_of_form, field_fault, item_faults, rate_fault, shape_fault, words_fault}
+use Rattle.expressions.specs.declared.expression.Civil.{Civil}
+use Rattle.expressions.specs.declared.expression.CronSets.{CronSets}
+use Rattle.expressions.specs.declared.expression.DayRule.{DayRule}
+use Rattle.expressions.specs.declared.expression.Expr.{Expr}
+use Rattle.expressions.specs.declared.expression.Expr.TheVariants as exprs
+use Rattle.expressions.specs.declared.expression.Unit.{Unit as RateUnit}
+use Rattle.plain_words.specs.Lists.{first_some, when}
+use Rattle.expressions.specs.Pieces.{Piece, cut, has_bare_ends, inside, placed, placed_words, same, words}
+use Rattle.expressions.specs.CivilSeconds.{is_civil, at_text}
+use Rattle.expressions.specs.CronItems as cron
+use Rattle.expressions.specs.CronItems.{is_in_range, row}
+use Rattle.expressions.specs.Spelling.{AreRateWords, AreRows, Fields, IsDayRule, IsValidExpression, SpellFields, SpellsCron, SpellsField, SpellsRate, Spells, give_no_rule, month_rule, sets_of, week_rule}
+use Rattle.expressions.specs.ExpressionFaults.{Fault, at_fault, cron_fault, days_fault, fault, fault_at, fault_of_form, field_fault, item_faults, rate_fault, shape_fault, words_fault}
 use Rattle.expr_grammar.specs.declared.fault.ExprFault.{ExprFault}
 use Rattle.expr_grammar.specs.Answers.{Answers, enclosed, told}
 use Rattle.expr_grammar.specs.Reading.{civil_of}
@@ -33,13 +34,9 @@ rows_no_fault field place (p ∷ ps) [] are = absurd are
 rows_no_fault field place (p ∷ ps) (i ∷ is) are =
     rw (are.0.is, are.0.in_range) (rows_no_fault field (place + length p + 1) ps is are.1)
 
-not_true : (b : Bool) → not b ≡ true → b ≡ false
-not_true false is = refl
-not_true true is = cc
-
 field_no_fault : (field : cron.Field) (piece : Piece) (all : List cron.Item) → SpellsField field piece.text all → field_fault field piece ≡ None
 field_no_fault field piece all spelled =
-    let mix : mixed all ≡ false = not_true (mixed all) (sym (together_is all) ∙ spelled.together) in
+    let mix : mixed all ≡ false = not-true (mixed all) (sym (together_is all) ∙ spelled.together) in
     field_fault_is field piece.place piece.text all (rows_no_fault field piece.place (cut 44 piece.text) all spelled.rows) spelled.rows ∙ (rw mix refl)
 
 -- rows are the rows of one list of items

@@ -1,27 +1,27 @@
-pub mod AtLaws
-pub mod Bits
-pub mod CanonicalLaws
-pub mod CronLaws
-pub mod Cuts
-pub mod DayRows
-pub mod DaysBack
-pub mod DecimalLaws
-pub mod Digits
-pub mod FaultLemmas
-pub mod FieldLaws
-pub mod InsideLaws
-pub mod ItemKinds
-pub mod ItemsLaws
-pub mod LackLaws
+mod AtLaws
+mod Bits
+mod CanonicalLaws
+mod CronLaws
+mod Cuts
+mod DayRows
+mod DaysBack
+mod DecimalLaws
+mod Digits
+mod FaultLemmas
+mod FieldLaws
+mod InsideLaws
+mod ItemKinds
+mod ItemsLaws
+mod LackLaws
 pub mod Laws
-pub mod PrintLaws
-pub mod QuestionLaws
-pub mod RateBack
-pub mod RateLaws
-pub mod RowLaws
-pub mod RunLaws
-pub mod RunRows
-pub mod SetLaws
-pub mod SetsBack
-pub mod Texts
-pub mod ValueSetLaws
+mod PrintLaws
+mod QuestionLaws
+mod RateBack
+mod RateLaws
+mod RowLaws
+mod RunLaws
+mod RunRows
+mod SetLaws
+mod SetsBack
+mod Texts
+mod ValueSetLaws

@@ -1,11 +1,11 @@
 -- The loops of the printer: whether a set is full, where a run ends, and the runs that are printed so far.
-use Rattle.std.proofs.Common.{◌≡◌, ℕ, suc, ◌+◌, ◌-◌, ◌<◌, ◌≤◌, Bool, true, false, cond, List, [], ◌∷◌, ◌++◌, refl, sym, ap, ◌∙◌, arith, append_assoc, append-nil}
+use Rattle.std.proofs.Common.{◌≡◌, ℕ, suc, ◌+◌, ◌-◌, ◌<◌, ◌≤◌, Bool, true, false, cond, List, [], ◌∷◌, ◌++◌, refl, sym, ap, ◌∙◌, arith, append_assoc}
 use Rattle.std.specs.Prelude.{map, codes}
 use Rattle.std.specs.List.{join_with_byte}
-use Rattle.sched_plain.specs.Lists.{only_if}
-use Rattle.sched_plain.specs.Canonical.{all_pass, begins_run, run_end, run_text, runs_from, value_count}
-use Rattle.sched_plain.specs.CronItems as cron
-use Rattle.expr_grammar.specs.ValueSets.{AreRunsOf, IsPrinted, are_none, run_at}
+use Rattle.plain_words.specs.Lists.{only_if}
+use Rattle.expressions.specs.Canonical.{all_pass, begins_run, run_end, run_text, runs_from, value_count}
+use Rattle.expressions.specs.CronItems as cron
+use Rattle.expr_grammar.specs.ValueSets.{IsPrinted, are_none, run_at}
 
 one_less : (v end : ℕ) → v < end → end - v ≡ suc (end - (v + 1))
 one_less v end less = omega arith
@@ -27,19 +27,6 @@ end_more test next greatest low high is =
     let more : greatest - (next - 1) ≡ suc (greatest - next) = omega arith in
     ap (λ x. run_end test x (greatest - x)) here ∙ sym (ap (run_end test (next - 1)) more ∙ (rw (back, is) refl))
 
-pub end_stop : (test : ℕ → Bool) (next greatest : ℕ) → 1 ≤ next → next ≤ greatest → test next ≡ false →
-    next - 1 ≡ run_end test (next - 1) (greatest - (next - 1))
-end_stop test next greatest low high is =
-    let back : next - 1 + 1 ≡ next = omega arith in
-    let more : greatest - (next - 1) ≡ suc (greatest - next) = omega arith in
-    sym (ap (run_end test (next - 1)) more ∙ (rw (back, is) refl))
-
-pub end_last : (test : ℕ → Bool) (next greatest : ℕ) → next ≡ greatest + 1 → greatest ≡ run_end test (next - 1) (greatest - (next - 1))
-end_last test next greatest is =
-    let here : next - 1 ≡ greatest = omega arith in
-    let none : greatest - greatest ≡ 0 = omega arith in
-    sym (ap (λ x. run_end test x (greatest - x)) here ∙ ap (run_end test greatest) none)
-
 -- the comma in front of a run, unless it is the first
 abbrev pub comma_unless : Bool → List ℕ
 comma_unless first = cond first (codes "") (codes ",")
@@ -55,16 +42,6 @@ joined_more (x ∷ y ∷ ys) run =
 none_behind : (done : List (ℕ × ℕ)) (run : ℕ × ℕ) → false ≡ are_none (done ++ run ∷ [])
 none_behind [] run = refl
 none_behind (x ∷ xs) run = refl
-
--- no run begins at the value
-pub printed_none : (before text : List ℕ) (first begins : Bool) (done : List (ℕ × ℕ)) (run : ℕ × ℕ) → begins ≡ false →
-    IsPrinted before text first done → IsPrinted before text first (done ++ only_if begins run)
-printed_none before text first begins done run off printed =
-    let same : done ++ only_if begins run ≡ done = ap (λ b. done ++ only_if b run) off ∙ append-nil done in
-    record {
-      is = printed.is ∙ ap (λ d. before ++ join_with_byte 44 (map run_text d)) (sym same);
-      first = printed.first ∙ ap are_none (sym same);
-    }
 
 -- a run that begins at the value is printed
 pub printed_one : (before text comma behind : List ℕ) (first begins : Bool) (done : List (ℕ × ℕ)) (run : ℕ × ℕ) → begins ≡ true →
@@ -89,14 +66,6 @@ pub record Printing (field : cron.Field) (test : ℕ → Bool) (before text : Li
   pub printed : IsPrinted before text is_first done
   pub runs : done ++ runs_from test (cron.least field) v (end - v) ≡ runs_from test (cron.least field) (cron.least field) (value_count field)
 
-pub printing_start : (field : cron.Field) (test : ℕ → Bool) (before : List ℕ) (v end : ℕ) → v ≡ cron.least field → end ≡ cron.greatest field + 1 →
-    Printing field test before before true v end
-printing_start field test before v end low all = record {
-  done = [];
-  printed = record { is = sym (append-nil before); first = refl };
-  runs = ap (λ x. runs_from test (cron.least field) x (end - x)) low ∙ ap (λ e. runs_from test (cron.least field) (cron.least field) (e - cron.least field)) all;
-}
-
 pub printing_more : (field : cron.Field) (test : ℕ → Bool) (before text next : List ℕ) (is_first first : Bool) (v end : ℕ) → v < end → end ≡ cron.greatest field + 1 →
     ((from : List ℕ) (done : List (ℕ × ℕ)) → IsPrinted from text is_first done → IsPrinted from next first (done ++ run_at field test v)) →
     Printing field test before text is_first v end → Printing field test before next first (v + 1) end
@@ -115,14 +84,6 @@ printing_more field test before text next is_first first v end less all step p =
           ∙ ap (λ x. p.done ++ x) (sym whole)
           ∙ p.runs;
     }
-
-pub printing_end : (field : cron.Field) (test : ℕ → Bool) (before text : List ℕ) (is_first : Bool) (v end : ℕ) → v ≡ end →
-    Printing field test before text is_first v end → AreRunsOf field test before text
-printing_end field test before text is_first v end is p =
-    let none : end - v ≡ 0 = omega arith in
-    let all : p.done ≡ runs_from test (cron.least field) (cron.least field) (value_count field) =
-    sym (append-nil p.done) ∙ ap (λ n. p.done ++ runs_from test (cron.least field) v n) (sym none) ∙ p.runs in
-    p.printed.is ∙ ap (λ d. before ++ join_with_byte 44 (map run_text d)) all
 
 -- the parts of a cron in a row
 pub cron_put : (old a b c d e f g h i j minutes hours days months week years : List ℕ) →

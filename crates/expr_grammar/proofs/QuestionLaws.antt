@@ -1,14 +1,15 @@
 -- A day field is `?` exactly where its items give no rule.
 use Rattle.std.proofs.Common.{◌≡◌, ℕ, Bool, true, false, List, [], ◌∷◌, refl, sym, ap, ◌∙◌, subst, cond, Option, Some, None}
+use Rattle.std.proofs.lemmas.Bool.{false_from_ne_true}
 use Rattle.std.specs.Prelude.{map, codes}
 use Rattle.std.specs.Option.{option_map, option_and_then}
-use Rattle.sched_plain.specs.Lists.{first_some, when}
-use Rattle.sched_plain.specs.Pieces.{cut, same, upper}
-use Rattle.sched_plain.specs.CronItems as cron
-use Rattle.sched_plain.specs.CronItems.{row, row_of_parts, every_row, one_row, on_row, range_row, alone_row, question_row, letter_row, near_row, last_row, nth_row, nth_parts, both, value, before_letter, halves, step_in}
-use Rattle.sched_plain.specs.Spelling.{AreRows, SpellsField, give_no_rule, may_stand_together}
+use Rattle.plain_words.specs.Lists.{first_some, when}
+use Rattle.expressions.specs.Pieces.{cut, same, upper}
+use Rattle.expressions.specs.CronItems as cron
+use Rattle.expressions.specs.CronItems.{row, row_of_parts, every_row, one_row, on_row, range_row, alone_row, question_row, letter_row, near_row, last_row, nth_row, nth_parts, both, value, before_letter, halves, step_in}
+use Rattle.expressions.specs.Spelling.{AreRows, SpellsField, give_no_rule, may_stand_together}
 use Rattle.expr_grammar.proofs.RowLaws.{single_part, some_part}
-use Rattle.expr_grammar.proofs.Texts.{same_is, is_same, false_unless}
+use Rattle.expr_grammar.proofs.Texts.{same_is, is_same}
 
 -- the option is not `?`
 abbrev pub IsOther : Option cron.Item → Type 0
@@ -141,7 +142,7 @@ pub question_is : (field : cron.Field) (word : List ℕ) (all : List cron.Item) 
     same word (codes "?") ≡ give_no_rule all
 question_is field word all day spelled = by_items all spelled.rows spelled.together where
   other : (item : cron.Item) (items : List cron.Item) → AreRows field (cut 44 word) (item ∷ items) → (item ≡ cron.no_rule → ⊥) → same word (codes "?") ≡ false
-  other item items are apart = false_unless (same word (codes "?")) (λ e. apart (
+  other item items are apart = false_from_ne_true (same word (codes "?")) (λ e. apart (
       let question : word ≡ codes "?" = same_is word (codes "?") e in
       let at : AreRows field (codes "?" ∷ []) (item ∷ items) = subst (λ w. AreRows field (cut 44 w) (item ∷ items)) question are in
       let found : Some item ≡ Some cron.no_rule = sym at.0.is ∙ day in cc))

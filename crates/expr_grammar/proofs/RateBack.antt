@@ -2,26 +2,26 @@
 use Rattle.std.proofs.Common.{◌≡◌, ℕ, suc, ◌+◌, ◌*◌, ◌-◌, ◌^◌, ◌<◌, ◌≤◌, Bool, true, false, cond, List, [], ◌∷◌, ◌++◌, length, refl, ap, arith, ne_eqb, lit<, Some, None}
 use Rattle.std.specs.Prelude.{codes, decimal, nat_le, not, slice_index, ◌==◌, ◌&&◌, ◌||◌}
 use Rattle.std.specs.List.{join_with_byte, list_all}
-use Rattle.std.proofs.lemmas.Bool.{leb-true, or_right}
+use Rattle.std.proofs.lemmas.Bool.{leb-true, or_right, and_parts}
 use Rattle.std.proofs.Math.Nat.{pow-le-pow_right}
 use Rattle.std.proofs.lemmas.Fmt.{first_decimal, length-decimal-le}
-use Rattle.sched_plain.specs.declared.expression.Unit.{Unit as RateUnit}
-use Rattle.sched_plain.specs.declared.expression.Unit.TheVariants as units
-use Rattle.sched_plain.specs.Canonical.{rate_text, unit_text}
-use Rattle.sched_plain.specs.Pieces.{is_digit, is_number, number_from, number_of, words}
-use Rattle.sched_plain.specs.Spelling.{AreRateWords, SpellsRate, count_of, unit_of}
+use Rattle.expressions.specs.declared.expression.Unit.{Unit as RateUnit}
+use Rattle.expressions.specs.declared.expression.Unit.TheVariants as units
+use Rattle.expressions.specs.Canonical.{rate_text, unit_text}
+use Rattle.expressions.specs.Pieces.{is_digit, is_number, number_from, number_of, words}
+use Rattle.expressions.specs.Spelling.{AreRateWords, SpellsRate, count_of, unit_of}
 use Rattle.expr_grammar.proofs.DecimalLaws.{is_number_by, written}
-use Rattle.expr_grammar.proofs.Digits.{and_true, pow_more, number_digits, number_short}
+use Rattle.expr_grammar.proofs.Digits.{pow_more, number_digits, number_short}
 use Rattle.expr_grammar.proofs.LackLaws.{AllFilled, AllLack, Lacks, digits_lack, joined_bare, words_joined}
 
 digit_high : (b : ℕ) → is_digit b ≡ true → b ≤ 57
-digit_high b is = leb-true _ _ (and_true (nat_le 48 b) (nat_le b 57) is).1
+digit_high b is = leb-true _ _ (and_parts (nat_le 48 b) (nat_le b 57) is).1
 
 -- a number with more digits behind it
 number_lt : (i n : ℕ) (text : List ℕ) → n < 10 ^ i → list_all is_digit text ≡ true → number_from n text < 10 ^ (i + length text)
 number_lt i n [] small digits = let same : i + 0 ≡ i = omega arith in rw same small
 number_lt i n (b ∷ bs) small digits =
-    let parts = and_true (is_digit b) (list_all is_digit bs) digits in
+    let parts = and_parts (is_digit b) (list_all is_digit bs) digits in
     let high : b ≤ 57 = digit_high b parts.0 in
     let more : 10 ^ (i + 1) ≡ 10 ^ i * 10 = pow_more i in
     let same : i + suc (length bs) ≡ i + 1 + length bs = omega arith in
@@ -42,7 +42,7 @@ chosen false x y is = cc
 count_small : (word : List ℕ) (count : ℕ) → count_of word ≡ Some count → count < 1000000
 count_small word count is =
     let found = chosen (is_number 1 6 word && ((length word == 1) || not (slice_index word 0 == 48))) (number_of word) count is in
-    let number = (and_true (is_number 1 6 word) ((length word == 1) || not (slice_index word 0 == 48)) found.0).0 in
+    let number = (and_parts (is_number 1 6 word) ((length word == 1) || not (slice_index word 0 == 48)) found.0).0 in
     let small = small_number word (number_digits 1 6 word number) (number_short 1 6 word number) in
     let same : number_of word ≡ count = found.1 in
     omega (arith, small, same)
@@ -88,7 +88,7 @@ name_back count units.Day = by_one (count == 1) where
 lacks_by : (text : List ℕ) → list_all (λ b. not (b == 32)) text ≡ true → Lacks 32 text
 lacks_by [] is = tt
 lacks_by (b ∷ bs) is =
-    let parts = and_true (not (b == 32)) (list_all (λ x. not (x == 32)) bs) is in (unless (b == 32) parts.0, lacks_by bs parts.1) where
+    let parts = and_parts (not (b == 32)) (list_all (λ x. not (x == 32)) bs) is in (unless (b == 32) parts.0, lacks_by bs parts.1) where
       unless : (t : Bool) → not t ≡ true → t ≡ false
       unless true e = cc
       unless false e = refl

@@ -1,11 +1,11 @@
 -- A rate: what spells it has no fault, and spells no other.
 use Rattle.std.proofs.Common.{◌≡◌, ℕ, ◌+◌, ◌≤◌, true, false, List, [], ◌∷◌, length, refl, sym, ap, ◌∙◌, arith, ne_eqb, Some, None}
 use Rattle.std.specs.Prelude.{codes, ◌==◌}
-use Rattle.sched_plain.specs.declared.expression.Unit.{Unit as RateUnit}
-use Rattle.sched_plain.specs.declared.expression.Expr.TheVariants as exprs
-use Rattle.sched_plain.specs.Pieces.{Piece, cut, words, words_among, placed_words, placed_words_among, has_bare_ends}
-use Rattle.sched_plain.specs.Spelling.{AreRateWords, Spells}
-use Rattle.sched_plain.specs.ExpressionFaults.{rate_fault, words_fault}
+use Rattle.expressions.specs.declared.expression.Unit.{Unit as RateUnit}
+use Rattle.expressions.specs.declared.expression.Expr.TheVariants as exprs
+use Rattle.expressions.specs.Pieces.{Piece, cut, words, words_among, placed_words, placed_words_among, has_bare_ends}
+use Rattle.expressions.specs.Spelling.{AreRateWords, Spells}
+use Rattle.expressions.specs.ExpressionFaults.{rate_fault, words_fault}
 use Rattle.expr_grammar.specs.Answers.{enclosed}
 use Rattle.expr_grammar.specs.WordsLeft.{texts}
 

@@ -2,25 +2,14 @@
 use Rattle.std.proofs.Common.{◌≡◌, ℕ, Bool, true, false, List, [], ◌∷◌, refl, sym, ap, ◌∙◌, cond, Option, Some, None, ne_eqb}
 use Rattle.std.specs.Prelude.{◌==◌, codes}
 use Rattle.std.specs.List.{join_with_byte, list_all}
-use Rattle.std.proofs.lemmas.Bool.{eqb-true, false≢true}
-use Rattle.sched_plain.specs.Pieces.{cut, parted, is_digit, is_number, same}
-use Rattle.sched_plain.specs.Lists.{first_some}
+use Rattle.std.proofs.lemmas.Bool.{eqb-true, false≢true, and_parts}
+use Rattle.expressions.specs.Pieces.{cut, parted, is_digit, is_number, same}
+use Rattle.plain_words.specs.Lists.{first_some}
 use Rattle.expr_grammar.specs.Items.{stepped_row}
-use Rattle.sched_plain.specs.CronItems as cron
-use Rattle.sched_plain.specs.CronItems.{row_of_parts, step_in, step}
+use Rattle.expressions.specs.CronItems as cron
+use Rattle.expressions.specs.CronItems.{row_of_parts, step_in, step}
 use Rattle.expr_grammar.proofs.Cuts.{parts_of}
-use Rattle.expr_grammar.proofs.Digits.{and_true, number_digits}
-
--- three parts at a slash are no item
-pub no_row_three : (field : cron.Field) (p q r : List (List ℕ)) (more : List (List (List ℕ))) → row_of_parts field (p ∷ q ∷ r ∷ more) ≡ None
-no_row_three field [] q r more = refl
-no_row_three field (x ∷ []) [] r more = refl
-no_row_three field (x ∷ []) (n ∷ []) r more = refl
-no_row_three field (x ∷ []) (n ∷ o ∷ ns) r more = refl
-no_row_three field (x ∷ y ∷ []) [] r more = refl
-no_row_three field (x ∷ y ∷ []) (n ∷ []) r more = refl
-no_row_three field (x ∷ y ∷ []) (n ∷ o ∷ ns) r more = refl
-no_row_three field (x ∷ y ∷ z ∷ zs) q r more = refl
+use Rattle.expr_grammar.proofs.Digits.{number_digits}
 
 join_at : (c b : ℕ) (bs : List ℕ) (here : Bool) (parts : List (List ℕ)) → (b == c) ≡ here → join_with_byte c parts ≡ bs → (parts ≡ [] → ⊥) →
     join_with_byte c (parted here b parts) ≡ b ∷ bs
@@ -46,7 +35,7 @@ single_part c text part is = ap (join_with_byte c) (sym is) ∙ join-cut c text
 pub cut_digits : (c : ℕ) (text : List ℕ) → is_digit c ≡ false → list_all is_digit text ≡ true → cut c text ≡ text ∷ []
 cut_digits c [] bare digits = refl
 cut_digits c (b ∷ bs) bare digits =
-    let both_digits = and_true (is_digit b) (list_all is_digit bs) digits in
+    let both_digits = and_parts (is_digit b) (list_all is_digit bs) digits in
     let other : (b == c) ≡ false = ne_eqb b c (λ e. absurd (false≢true (sym bare ∙ ap is_digit (sym e) ∙ both_digits.0))) in
     rw (other, cut_digits c bs bare both_digits.1) refl
 

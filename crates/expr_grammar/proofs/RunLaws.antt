@@ -1,16 +1,14 @@
 -- The maximal runs of a set have its values and no others.
 use Rattle.std.proofs.Common.{◌≡◌, ℕ, zero, suc, ◌+◌, ◌-◌, ◌%◌, ◌<◌, ◌≤◌, Bool, true, false, cond, List, [], ◌∷◌, ◌++◌, refl, sym, ap, ◌∙◌, arith, le-leb, eq-eqb, ◌⊎◌, inl, inr}
+use Rattle.plain_words.proofs.Booleans.{or_false, or_assoc}
 use Rattle.std.specs.Prelude.{map, nat_le, ◌&&◌, ◌||◌, ◌==◌, not}
 use Rattle.std.specs.List.{list_any}
-use Rattle.std.proofs.lemmas.Bool.{leb-true, false≢true, cases_lt, or_cases, or_left, or_right}
-use Rattle.sched_plain.specs.Lists.{only_if}
-use Rattle.sched_plain.specs.Canonical.{all_pass, begins_run, run_end, runs_from}
-use Rattle.sched_plain.specs.CronItems as cron
-use Rattle.sched_plain.specs.CronItems.{contains, is_in_range}
-use Rattle.expr_grammar.proofs.Bits.{or_assoc, or_false}
-use Rattle.expr_grammar.proofs.Digits.{and_true}
+use Rattle.std.proofs.lemmas.Bool.{leb-true, false≢true, cases_lt, or_cases, or_left, or_right, and_parts, false_from_ne_true}
+use Rattle.plain_words.specs.Lists.{only_if}
+use Rattle.expressions.specs.Canonical.{all_pass, begins_run, run_end, runs_from}
+use Rattle.expressions.specs.CronItems as cron
+use Rattle.expressions.specs.CronItems.{contains, is_in_range}
 use Rattle.expr_grammar.proofs.SetLaws.{AllInRange}
-use Rattle.expr_grammar.proofs.Texts.{false_unless}
 
 -- the item of a run
 abbrev pub run_item : ℕ × ℕ → cron.Item
@@ -25,7 +23,7 @@ pub pass_at : (test : ℕ → Bool) (v n w : ℕ) → all_pass test v n ≡ true
 pass_at test v zero w all low high = absurd (omega arith)
 pass_at test v (suc n) w all low high = by_place (pass_at test (v + 1) n w) (cases_lt v w) where
   parts : (test v ≡ true) × (all_pass test (v + 1) n ≡ true)
-  parts = and_true (test v) (all_pass test (v + 1) n) all
+  parts = and_parts (test v) (all_pass test (v + 1) n) all
 
   by_place : (all_pass test (v + 1) n ≡ true → v + 1 ≤ w → w < v + 1 + n → test w ≡ true) → (v < w) ⊎ (w ≤ v) → test w ≡ true
   by_place later (inl above) = later parts.1 (omega arith) (omega arith)
@@ -77,7 +75,7 @@ in_run w a b low high =
 
 pub run_has : (w a b : ℕ) → contains w (cron.values a b 1) ≡ true → (a ≤ w) × (w ≤ b)
 run_has w a b is =
-    let bounds = and_true (nat_le a w) (nat_le w b) (and_true (nat_le a w && nat_le w b) (((w - a) % 1) == 0) is).0 in
+    let bounds = and_parts (nat_le a w) (nat_le w b) (and_parts (nat_le a w && nat_le w b) (((w - a) % 1) == 0) is).0 in
     (leb-true _ _ bounds.0, leb-true _ _ bounds.1)
 
 covers_append : (w : ℕ) (xs ys : List (ℕ × ℕ)) → covers w (xs ++ ys) ≡ (covers w xs || covers w ys)
@@ -97,7 +95,7 @@ covered_pass test low v (suc n) w is =
     (or_cases (covers w (run_here test low v n)) (covers w (runs_from test low (v + 1) n)) (sym (covers_append w (run_here test low v n) (runs_from test low (v + 1) n)) ∙ is)) where
       first_pass : (begins : Bool) → begins_run test low v ≡ begins → covers w (only_if begins (v, run_end test v n)) ≡ true → test w ≡ true
       first_pass true opens found =
-          let here : test v ≡ true = (and_true (test v) ((v == low) || not (test (v - 1))) opens).0 in
+          let here : test v ≡ true = (and_parts (test v) ((v == low) || not (test (v - 1))) opens).0 in
           let within = run_has w v (run_end test v n) (sym (or_false (contains w (cron.values v (run_end test v n) 1))) ∙ found) in
           end_passes test v n w here within.0 within.1
       first_pass false opens found = cc
@@ -182,7 +180,7 @@ pub covers_is : (test : ℕ → Bool) (low n w : ℕ) → low ≤ w → w < low 
 covers_is test low n w above within = by_test (test w) refl where
   by_test : (here : Bool) → test w ≡ here → covers w (runs_from test low low n) ≡ here
   by_test true is = pass_covered test low low n w low is (omega arith) above within (inl refl)
-  by_test false is = false_unless (covers w (runs_from test low low n)) (λ found. false≢true (sym is ∙ covered_pass test low low n w found))
+  by_test false is = false_from_ne_true (covers w (runs_from test low low n)) (λ found. false≢true (sym is ∙ covered_pass test low low n w found))
 
 -- the run is one of values of the field
 abbrev pub RunFits : cron.Field → ℕ × ℕ → Type 0

@@ -2,17 +2,17 @@
 use Rattle.std.proofs.Common.{◌≡◌, ℕ, ◌<◌, ◌≤◌, Bool, true, false, cond, List, [], ◌∷◌, ◌++◌, length, refl, sym, ap, ◌∙◌, arith, Some, length-append, lit<, subst}
 use Rattle.std.specs.Prelude.{map, codes, decimal, ◌==◌, ◌||◌, not}
 use Rattle.std.specs.List.{join_with_byte, list_all, list_any}
-use Rattle.std.proofs.lemmas.Bool.{eqb-true, false≢true}
-use Rattle.sched_plain.specs.Pieces.{cut, is_digit, same}
-use Rattle.sched_plain.specs.Canonical.{all_pass, run_text, runs_from, set_text, value_count}
-use Rattle.sched_plain.specs.CronItems as cron
-use Rattle.sched_plain.specs.CronItems.{contains, row, row_of_parts}
-use Rattle.sched_plain.specs.Spelling.{AreRows, SpellsField, may_stand_together}
+use Rattle.std.proofs.lemmas.Bool.{eqb-true, false≢true, false_from_ne_true}
+use Rattle.expressions.specs.Pieces.{cut, is_digit, same}
+use Rattle.expressions.specs.Canonical.{all_pass, run_text, runs_from, set_text, value_count}
+use Rattle.expressions.specs.CronItems as cron
+use Rattle.expressions.specs.CronItems.{contains, row, row_of_parts}
+use Rattle.expressions.specs.Spelling.{AreRows, SpellsField, may_stand_together}
 use Rattle.expr_grammar.proofs.DecimalLaws.{greatest_small, value_back, written}
 use Rattle.expr_grammar.proofs.LackLaws.{AllLack, Lacks, cut_behind, cut_joined, cut_lacking, digits_lack, joined_lacks, lacks_append}
 use Rattle.expr_grammar.proofs.RunLaws.{AllFit, RunFits, covers, covers_is, fit_in_range, in_run, pass_at, run_item, runs_fit}
 use Rattle.expr_grammar.proofs.SetLaws.{AllInRange}
-use Rattle.expr_grammar.proofs.Texts.{false_unless, same_is}
+use Rattle.expr_grammar.proofs.Texts.{same_is}
 
 -- a decimal as a text of a field's value
 pub record IsPlain (n : ℕ) : Type 0 where
@@ -27,7 +27,7 @@ plain field n high =
 
 -- digits are no `*`
 no_star : (text : List ℕ) → list_all is_digit text ≡ true → same text (codes "*") ≡ false
-no_star text digits = false_unless (same text (codes "*")) (λ e. false≢true (sym (ap (list_all is_digit) (same_is text (codes "*") e)) ∙ digits))
+no_star text digits = false_from_ne_true (same text (codes "*")) (λ e. false≢true (sym (ap (list_all is_digit) (same_is text (codes "*") e)) ∙ digits))
 
 one_row_is : (field : cron.Field) (n : ℕ) → cron.least field ≤ n → n ≤ cron.greatest field → row field (decimal n) ≡ Some (cron.values n n 1)
 unfolding row

@@ -4,17 +4,16 @@ use Rattle.std.specs.Prelude.{◌&&◌, nat_le, ◌==◌, ◌%◌}
 use Rattle.std.specs.List.{list_any}
 use Rattle.std.specs.Option.{option_map}
 use Rattle.std.proofs.Math.Nat.{pow-le-pow_right}
-use Rattle.std.proofs.lemmas.Bool.{leb-true}
-use Rattle.sched_plain.specs.Lists.{head}
-use Rattle.sched_plain.specs.CronItems as cron
-use Rattle.sched_plain.specs.CronItems.{bits_below, contains, is_in_range, is_value, greatest, least, set_of, years_of}
-use Rattle.sched_plain.specs.Spelling.{AreRows}
+use Rattle.std.proofs.lemmas.Bool.{leb-true, and_parts}
+use Rattle.plain_words.specs.Lists.{head}
+use Rattle.expressions.specs.CronItems as cron
+use Rattle.expressions.specs.CronItems.{bits_below, contains, is_in_range, is_value, greatest, least, set_of, years_of}
+use Rattle.expressions.specs.Spelling.{AreRows}
 use Rattle.expr_grammar.specs.declared.item.Item.{Item}
 use Rattle.expr_grammar.specs.declared.item.Item.TheVariants as items
 use Rattle.expr_grammar.specs.declared.items.Items.{Items}
 use Rattle.expr_grammar.specs.Items.{IsRead, IsSmall, HasSmallRule, item_of, first_value}
 use Rattle.expr_grammar.proofs.Bits.{bits_below-lt, bits_below_same}
-use Rattle.expr_grammar.proofs.Digits.{and_true}
 
 -- each item is in range
 abbrev pub AllInRange : cron.Field → List cron.Item → Type 0
@@ -28,7 +27,7 @@ rows_in_range field (p ∷ ps) [] are = absurd are
 rows_in_range field (p ∷ ps) (i ∷ is) are = (are.0.in_range, rows_in_range field ps is are.1)
 
 pub value_high : (field : cron.Field) (v : ℕ) → is_value field v ≡ true → v ≤ greatest field
-value_high field v is = leb-true _ _ (and_true (nat_le (least field) v) (nat_le v (greatest field)) is).1
+value_high field v is = leb-true _ _ (and_parts (nat_le (least field) v) (nat_le v (greatest field)) is).1
 
 pub false_le : (a b : ℕ) → b < a → nat_le a b ≡ false
 false_le a b less = by_test (nat_le a b) refl where
@@ -42,9 +41,9 @@ and_false false b = refl
 
 contains_past : (field : cron.Field) (item : cron.Item) (v : ℕ) → 7 ≤ greatest field → is_in_range field item ≡ true → greatest field < v → contains v item ≡ false
 contains_past field (cron.values from to by) v week in_range past =
-    let bounds = (and_true (is_value field from && is_value field to && nat_le from to) (nat_le 1 by) in_range).0 in
-    let ends = (and_true (is_value field from && is_value field to) (nat_le from to) bounds).0 in
-    let high : to ≤ greatest field = value_high field to (and_true (is_value field from) (is_value field to) ends).1 in
+    let bounds = (and_parts (is_value field from && is_value field to && nat_le from to) (nat_le 1 by) in_range).0 in
+    let ends = (and_parts (is_value field from && is_value field to) (nat_le from to) bounds).0 in
+    let high : to ≤ greatest field = value_high field to (and_parts (is_value field from) (is_value field to) ends).1 in
     let off : nat_le v to ≡ false = false_le v to (omega arith) in
     rw off (and_false (nat_le from v) (((v - from) % by) == 0))
 contains_past field cron.no_rule v week in_range past = refl
@@ -110,8 +109,8 @@ small_item field items.Saturday room is = tt
 small_item field (items.NearWeekday n) room is = let high : n ≤ greatest field = value_high field n is in omega arith
 small_item field (items.LastOf n) room is = let high : n ≤ greatest field = value_high field n is in omega arith
 small_item field (items.Nth n k) room is =
-    let parts = and_true (is_value field n && nat_le 1 k) (nat_le k 5) is in
-    let high : n ≤ greatest field = value_high field n (and_true (is_value field n) (nat_le 1 k) parts.0).0 in
+    let parts = and_parts (is_value field n && nat_le 1 k) (nat_le k 5) is in
+    let high : n ≤ greatest field = value_high field n (and_parts (is_value field n) (nat_le 1 k) parts.0).0 in
     let few : k ≤ 5 = leb-true k 5 parts.1 in
     (omega arith, omega arith)
 

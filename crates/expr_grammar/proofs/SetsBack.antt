@@ -3,10 +3,11 @@ use Rattle.std.proofs.Common.{◌≡◌, ℕ, ◌+◌, ◌-◌, ◌<◌, ◌≤�
 use Rattle.std.specs.Prelude.{map, nat_lt, ◌==◌}
 use Rattle.std.specs.List.{list_any}
 use Rattle.std.proofs.lemmas.Bool.{cases_lt, ltb-true, ltb-false}
-use Rattle.sched_plain.specs.Canonical.{has_bit, has_year, set_text}
-use Rattle.sched_plain.specs.declared.expression.CronSets.{CronSets}
-use Rattle.sched_plain.specs.CronItems as cron
-use Rattle.sched_plain.specs.CronItems.{bits_below, contains, set_of, years_of}
+use Rattle.expressions.specs.Canonical.{set_text}
+use Rattle.expressions.specs.Sets.{has_value, has_year}
+use Rattle.expressions.specs.declared.expression.CronSets.{CronSets}
+use Rattle.expressions.specs.CronItems as cron
+use Rattle.expressions.specs.CronItems.{bits_below, contains, set_of, years_of}
 use Rattle.expr_grammar.proofs.Bits.{bit, bit_at-below, bits_below_same}
 use Rattle.expr_grammar.proofs.ItemKinds.{HasValue, any_before}
 use Rattle.expr_grammar.proofs.RunLaws.{run_item}
@@ -22,12 +23,12 @@ abbrev pub any_of : ℕ → List cron.Item → Bool
 any_of v all = list_any (contains v) all
 
 -- a set has the values of its items
-set_has : (field : cron.Field) (all : List cron.Item) (v : ℕ) → v ≤ cron.greatest field → has_bit (set_of field all) v ≡ any_of v all
+set_has : (field : cron.Field) (all : List cron.Item) (v : ℕ) → v ≤ cron.greatest field → has_value (set_of field all) v ≡ any_of v all
 unfolding set_of
 set_has field all v high =
     ap (λ n. n == 1) (bit_at-below (λ w. any_of w all) (cron.greatest field + 1) v (omega arith)) ∙ bit_is (any_of v all)
 
-year_has : (first : ℕ) (all : List cron.Item) (y : ℕ) → first ≤ y → y < first + 128 → has_bit (years_of first all) (y - first) ≡ any_of y all
+year_has : (first : ℕ) (all : List cron.Item) (y : ℕ) → first ≤ y → y < first + 128 → has_value (years_of first all) (y - first) ≡ any_of y all
 unfolding years_of
 year_has first all y low high =
     let back : first + (y - first) ≡ y = omega arith in
@@ -36,7 +37,7 @@ year_has first all y low high =
 
 -- the set of a field and its text
 pub record FieldBack (field : cron.Field) (set : ℕ) : Type 0 where
-  pub back : ReadsBack field (has_bit set) (set_text field (has_bit set))
+  pub back : ReadsBack field (has_value set) (set_text field (has_value set))
   pub same : set ≡ set_of field (map run_item (back.first ∷ back.more))
 
 -- the set of items is the set of what is printed of it
@@ -44,11 +45,11 @@ pub field_back : (field : cron.Field) (set : ℕ) (all : List cron.Item) → set
     FieldBack field set
 unfolding set_of
 field_back field set all is week in_range value = record { back = back; same = is ∙ sym same_set } where
-  agrees : (v : ℕ) → v ≤ cron.greatest field → has_bit set v ≡ any_of v all
-  agrees v high = ap (λ s. has_bit s v) is ∙ set_has field all v high
+  agrees : (v : ℕ) → v ≤ cron.greatest field → has_value set v ≡ any_of v all
+  agrees v high = ap (λ s. has_value s v) is ∙ set_has field all v high
 
-  back : ReadsBack field (has_bit set) (set_text field (has_bit set))
-  back = set_back field (has_bit set) value.value value.low value.high (agrees value.value value.high ∙ value.has)
+  back : ReadsBack field (has_value set) (set_text field (has_value set))
+  back = set_back field (has_value set) value.value value.low value.high (agrees value.value value.high ∙ value.has)
 
   same_value : (v : ℕ) → v ≤ cron.greatest field → (v < cron.least field) ⊎ (cron.least field ≤ v) → any_of v (map run_item (back.first ∷ back.more)) ≡ any_of v all
   same_value v high (inl before) =
@@ -86,10 +87,10 @@ years_back sets all is_low is_high in_range value = record {
   by_half : (y : ℕ) → 1970 ≤ y → y ≤ 2199 → (half : Bool) → nat_lt y 2098 ≡ half → has_year sets y ≡ any_of y all
   by_half y low high true is =
       let below : y < 2098 = ltb-true _ _ is in
-      (rw is refl) ∙ ap (λ s. has_bit s (y - 1970)) is_low ∙ year_has 1970 all y low (low_half y below)
+      (rw is refl) ∙ ap (λ s. has_value s (y - 1970)) is_low ∙ year_has 1970 all y low (low_half y below)
   by_half y low high false is =
       let above : 2098 ≤ y = ltb-false _ _ is in
-      (rw is refl) ∙ ap (λ s. has_bit s (y - 2098)) is_high ∙ year_has 2098 all y above (high_half y high)
+      (rw is refl) ∙ ap (λ s. has_value s (y - 2098)) is_high ∙ year_has 2098 all y above (high_half y high)
 
   agrees : (y : ℕ) → 1970 ≤ y → y ≤ 2199 → has_year sets y ≡ any_of y all
   agrees y low high = by_half y low high (nat_lt y 2098) refl

@@ -1,24 +1,16 @@
 -- Lemmas on texts that are the same.
-use Rattle.std.proofs.Common.{◌≡◌, ◌≢◌, ℕ, ◌+◌, ◌<◌, Bool, true, false, List, length, get_or, drop, refl, sym, ap, ◌∙◌, eq-eqb, ne_eqb, add-one}
+use Rattle.std.proofs.Common.{◌≡◌, ◌≢◌, ℕ, ◌+◌, ◌<◌, true, false, List, length, get_or, drop, refl, sym, ◌∙◌, eq-eqb, ne_eqb, add-one}
 use Rattle.std.proofs.Math.Seq.{drop-cons}
 use Rattle.std.proofs.lemmas.Slice.Eq.{bytes_eq-Decides}
 use Rattle.std.specs.Prelude.{map, nat_eq, ◌&&◌}
-use Rattle.sched_plain.specs.Pieces.{same}
-use Rattle.sched_plain.specs.ExpressionFaults.{masked}
+use Rattle.expressions.specs.Pieces.{same}
+use Rattle.expressions.specs.ExpressionFaults.{masked}
 
 pub same_is : (a b : List ℕ) → same a b ≡ true → a ≡ b
 same_is a b = (bytes_eq-Decides a b).0
 
 pub is_same : (a b : List ℕ) → a ≡ b → same a b ≡ true
 is_same a b = (bytes_eq-Decides a b).1
-
-pub false_unless : (b : Bool) → (b ≡ true → ⊥) → b ≡ false
-false_unless true never = absurd (never refl)
-false_unless false never = refl
-
--- texts of two lengths differ
-pub apart_by_length : (a b : List ℕ) → length a ≢ length b → same a b ≡ false
-apart_by_length a b apart = false_unless (same a b) (λ e. apart (ap length (same_is a b e)))
 
 -- a text and its form from a place on, by the byte there
 pub masked_drop : (a b : List ℕ) (i : ℕ) → i < length a → i < length b →

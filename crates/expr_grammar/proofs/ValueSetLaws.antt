@@ -1,6 +1,6 @@
 -- Each value of a field has its bit in a set of the field.
 use Rattle.std.proofs.Common.{ℕ, ◌≤◌, arith}
-use Rattle.sched_plain.specs.CronItems as cron
+use Rattle.expressions.specs.CronItems as cron
 use Rattle.expr_grammar.specs.declared.value_set.ValueSet.{ValueSet}
 use Rattle.expr_grammar.specs.declared.value_set.ValueSet.TheVariants as sets
 use Rattle.expr_grammar.specs.ValueSets.{CanHold, IsSetOf}

@@ -1,6 +1,6 @@
 -- What a reader answers, against the first fault of what it reads.
 use Rattle.std.specs.Prelude.{◌≡◌, ℕ, Option, Some, None, Result, Ok, Err, List, ◌++◌, codes}
-use Rattle.sched_plain.specs.ExpressionFaults.{Fault}
+use Rattle.expressions.specs.ExpressionFaults.{Fault}
 use Rattle.expr_grammar.specs.declared.fault.ExprFault.{ExprFault}
 
 -- the fault that is told

@@ -1,15 +1,15 @@
 -- The six fields of a cron as they are read.
 use Rattle.std.specs.Prelude.{◌≡◌, ℕ, not, ◌&&◌, ◌||◌, Bool, true, false, if◌then◌else◌, Option, Some, List, [], ◌∷◌}
 use Rattle.std.specs.Option.{option_map}
-use Rattle.sched_plain.specs.declared.expression.CronSets.{CronSets}
-use Rattle.sched_plain.specs.declared.expression.DayRule.{DayRule}
-use Rattle.sched_plain.specs.declared.expression.DayRule.TheVariants as rules
-use Rattle.sched_plain.specs.Lists.{first_some, when}
-use Rattle.sched_plain.specs.Pieces as pieces
-use Rattle.sched_plain.specs.CronItems as cron
-use Rattle.sched_plain.specs.Spelling as spelling
-use Rattle.sched_plain.specs.Spelling.{SpellFields, IsDayRule, sets_of}
-use Rattle.sched_plain.specs.ExpressionFaults.{Fault, fault_at, field_fault}
+use Rattle.expressions.specs.declared.expression.CronSets.{CronSets}
+use Rattle.expressions.specs.declared.expression.DayRule.{DayRule}
+use Rattle.expressions.specs.declared.expression.DayRule.TheVariants as rules
+use Rattle.plain_words.specs.Lists.{first_some, when}
+use Rattle.expressions.specs.Pieces as pieces
+use Rattle.expressions.specs.CronItems as cron
+use Rattle.expressions.specs.Spelling as spelling
+use Rattle.expressions.specs.Spelling.{SpellFields, IsDayRule, sets_of}
+use Rattle.expressions.specs.ExpressionFaults.{Fault, fault_at, field_fault}
 use Rattle.expr_grammar.specs.declared.cron.AllItems.{AllItems}
 use Rattle.expr_grammar.specs.declared.cron.FieldRead.{FieldRead}
 use Rattle.expr_grammar.specs.declared.cron.Fields.{Fields}

@@ -2,9 +2,10 @@
 use Rattle.std.specs.Prelude.{◌≡◌, ◌≤◌, ◌<◌, ◌^◌, ℕ, ◌+◌, nat_le, Option, Some, List, [], ◌∷◌, length}
 use Rattle.std.specs.List.{list_any}
 use Rattle.std.specs.Option.{option_map}
-use Rattle.sched_plain.specs.Lists.{first_some, head}
-use Rattle.sched_plain.specs.CronItems as cron
-use Rattle.sched_plain.specs.Spelling.{SpellsField}
+use Rattle.plain_words.specs.Lists.{first_some, head}
+use Rattle.expressions.specs.CronItems as cron
+use Rattle.expressions.specs.Years.{first_year}
+use Rattle.expressions.specs.Spelling.{SpellsField}
 use Rattle.expr_grammar.specs.declared.field.Field.{Field}
 use Rattle.expr_grammar.specs.declared.field.Field.TheVariants as fields
 use Rattle.expr_grammar.specs.declared.item.Item.{Item}
@@ -41,7 +42,7 @@ stepped_row field by text = first_some (cron.every_row field (Some by) text ∷ 
 
 -- the first value of a field's set: bit i is that value and i
 abbrev pub first_value : cron.Field → ℕ
-first_value cron.year = 1970
+first_value cron.year = first_year
 first_value field = 0
 
 -- what the items of a field give, as the code keeps it

@@ -1,6 +1,6 @@
 -- The parts of a text as the code finds them.
 use Rattle.std.specs.Prelude.{◌≡◌, ℕ, List, [], ◌∷◌}
-use Rattle.sched_plain.specs.Pieces.{cut}
+use Rattle.expressions.specs.Pieces.{cut}
 use Rattle.expr_grammar.specs.declared.cut.Parts.{Parts}
 use Rattle.expr_grammar.specs.declared.cut.Parts.TheVariants.{One, Two, More}
 

@@ -1,9 +1,10 @@
 -- What the readers' parts give, in the words of the spelling.
-use Rattle.std.specs.Prelude.{ℕ, nat_le, nat_lt, ◌&&◌, Option, List, [], ◌∷◌, pos}
-use Rattle.jiff_core.specs.Calendar.{days_in_month}
-use Rattle.sched_plain.specs.declared.expression.Civil.{Civil}
-use Rattle.sched_plain.specs.Lists.{first_some}
-use Rattle.sched_plain.specs.ExpressionFaults.{Fault, group, group_fault}
+use Rattle.std.specs.Prelude.{ℕ, nat_le, nat_lt, ◌&&◌, Option, List, [], ◌∷◌}
+use Rattle.expressions.specs.declared.expression.Civil.{Civil}
+use Rattle.expressions.specs.Years.{first_year, last_year}
+use Rattle.expressions.specs.CivilSeconds.{month_length}
+use Rattle.plain_words.specs.Lists.{first_some}
+use Rattle.expressions.specs.ExpressionFaults.{Fault, group, group_fault}
 
 -- the civil second that the groups of an `at` give
 abbrev pub civil_of : List ℕ → Civil
@@ -24,7 +25,7 @@ time_fault c = first_some (
 -- the first fault of the groups of an `at`
 abbrev pub civil_fault : Civil → Option Fault
 civil_fault c = first_some (
-    group_fault 0 (nat_le 1970 c.year && nat_le c.year 2199)
+    group_fault 0 (nat_le first_year c.year && nat_le c.year last_year)
     ∷ group_fault 5 (nat_le 1 c.month && nat_le c.month 12)
-    ∷ group_fault 8 (nat_le 1 c.day && nat_le c.day (days_in_month (pos c.year) c.month))
+    ∷ group_fault 8 (nat_le 1 c.day && nat_le c.day (month_length c.year c.month))
     ∷ time_fault c ∷ [])

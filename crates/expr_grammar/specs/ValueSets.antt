@@ -1,21 +1,24 @@
 -- The values of a cron's field that an expression picks, as the printer asks for them.
-use Rattle.std.specs.Prelude.{◌≡◌, ℕ, ◌≤◌, ◌<◌, ◌-◌, nat_lt, Bool, if◌then◌else◌, true, false, List, [], ◌∷◌, ◌++◌, map}
+use Rattle.std.specs.Prelude.{◌≡◌, ℕ, ◌≤◌, ◌<◌, ◌+◌, ◌-◌, Bool, true, false, List, [], ◌∷◌, ◌++◌, map}
 use Rattle.std.specs.List.{join_with_byte}
-use Rattle.sched_plain.specs.Canonical.{begins_run, has_bit, run_end, run_text, runs_from, value_count}
-use Rattle.sched_plain.specs.Lists.{only_if}
-use Rattle.sched_plain.specs.CronItems as cron
+use Rattle.expressions.specs.Canonical.{begins_run, run_end, run_text, runs_from, value_count}
+use Rattle.plain_words.specs.Bytes.{comma}
+use Rattle.expressions.specs.Sets.{has_value, is_in_halves}
+use Rattle.expressions.specs.Years.{first_year, upper_year}
+use Rattle.plain_words.specs.Lists.{only_if}
+use Rattle.expressions.specs.CronItems as cron
 use Rattle.expr_grammar.specs.declared.value_set.ValueSet.{ValueSet}
 use Rattle.expr_grammar.specs.declared.value_set.ValueSet.TheVariants as sets
 
 -- the value is in the set
 abbrev pub holds : ValueSet → ℕ → Bool
-holds (sets.Values bits) v = has_bit bits v
-holds (sets.Years low high) y = if nat_lt y 2098 then has_bit low (y - 1970) else has_bit high (y - 2098)
+holds (sets.Values bits) v = has_value bits v
+holds (sets.Years low high) y = is_in_halves low high y
 
 -- the set has a bit for the value
 abbrev pub CanHold : ValueSet → ℕ → Type 0
 CanHold (sets.Values bits) v = v < 64
-CanHold (sets.Years low high) y = (1970 ≤ y) × (y < 2226)
+CanHold (sets.Years low high) y = (first_year ≤ y) × (y < upper_year + 128)
 
 -- the set is one of the field: years have a set of their own
 abbrev pub IsSetOf : cron.Field → ValueSet → Type 0
@@ -35,10 +38,10 @@ are_none (run ∷ runs) = false
 
 -- behind what stood before stand these runs, joined by commas; whether there are none
 pub record IsPrinted (before text : List ℕ) (is_first : Bool) (done : List (ℕ × ℕ)) : Type 0 where
-  pub is : text ≡ before ++ join_with_byte 44 (map run_text done)
+  pub is : text ≡ before ++ join_with_byte comma (map run_text done)
   pub first : is_first ≡ are_none done
 
 -- behind what stood before stand the maximal runs of the field's values that pass, joined by commas
 abbrev pub AreRunsOf : cron.Field → (ℕ → Bool) → List ℕ → List ℕ → Type 0
 AreRunsOf field test before text =
-    text ≡ before ++ join_with_byte 44 (map run_text (runs_from test (cron.least field) (cron.least field) (value_count field)))
+    text ≡ before ++ join_with_byte comma (map run_text (runs_from test (cron.least field) (cron.least field) (value_count field)))

@@ -1,7 +1,7 @@
 -- The pieces of a text as the definitions see them.
 use Rattle.std.specs.Prelude.{ℕ, List, map}
-use Rattle.sched_plain.specs.Pieces as pieces
-use Rattle.sched_plain.specs.Pieces.{placed_words}
+use Rattle.expressions.specs.Pieces as pieces
+use Rattle.expressions.specs.Pieces.{placed_words}
 use Rattle.expr_grammar.specs.declared.words.Piece.{Piece}
 use Rattle.expr_grammar.specs.declared.words.Words.{Words}
 

@@ -1,16 +1,17 @@
+//! Reads an `at`.
 ghost use Rattle.std.specs.Prelude.{◌≡◌, ◌+◌, ◌≤◌, true, map, length, take, drop, codes};
 ghost use Rattle.std.specs.List.{list_all};
 ghost use Rattle.std.specs.Option.{option_map};
-ghost use Rattle.sched_plain.specs.Pieces.{is_digit, same};
-ghost use Rattle.sched_plain.specs.Spelling.{Spells};
-ghost use Rattle.sched_plain.specs.ExpressionFaults.{at_fault, group, groups_fault, masked};
+ghost use Rattle.expressions.specs.Pieces.{is_digit, same};
+ghost use Rattle.expressions.specs.Spelling.{Spells};
+ghost use Rattle.expressions.specs.ExpressionFaults.{at_fault, group, groups_fault, masked};
 ghost use Rattle.expr_grammar.specs.Answers.{Answers, enclosed, told};
 ghost use Rattle.expr_grammar.specs.Reading.{civil_fault, civil_of, time_fault};
 
 use crate::bytes::{is_digit, number};
 use crate::fault::ExprFault;
+use expressions::{Civil, Expr, FIRST_YEAR, LAST_YEAR};
 use jiff_core::civil::days_in_month;
-use sched_plain::{Civil, Expr};
 
 /// What `at(` and `)` enclose, with each digit as 0.
 const FORM: &[u8; 19] = b"0000-00-00T00:00:00";
@@ -68,11 +69,11 @@ fn groups(inner: &[u8]) -> Civil
 {
     Civil {
         year: year(inner),
-        month: two_digits(inner, 5),
-        day: two_digits(inner, 8),
-        hour: two_digits(inner, 11),
-        minute: two_digits(inner, 14),
-        second: two_digits(inner, 17),
+        month: two_digit_number(inner, 5),
+        day: two_digit_number(inner, 8),
+        hour: two_digit_number(inner, 11),
+        minute: two_digit_number(inner, 14),
+        second: two_digit_number(inner, 17),
     }
 }
 
@@ -84,7 +85,7 @@ fn year(inner: &[u8]) -> u16
     number(&inner[0..4]) as u16
 }
 
-fn two_digits(inner: &[u8], at: usize) -> u8
+fn two_digit_number(inner: &[u8], at: usize) -> u8
     requires long { at + 2 ≤ length inner.now }
     requires digits { list_all is_digit (take 2 (drop at inner.now)) ≡ true }
     ensures { result ≡ group inner.now at 2 }
@@ -96,7 +97,7 @@ fn two_digits(inner: &[u8], at: usize) -> u8
 fn civil_fault(civil: &Civil) -> Option<ExprFault>
     ensures { option_map told result ≡ civil_fault civil.now }
 {
-    if civil.year < 1970 || civil.year > 2199 {
+    if civil.year < FIRST_YEAR || civil.year > LAST_YEAR {
         return Some(ExprFault::out_of_range(OPENING));
     }
     if civil.month < 1 || civil.month > 12 {

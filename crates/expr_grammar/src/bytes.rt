@@ -1,6 +1,7 @@
+//! Decimal digits, and texts that are the same.
 ghost use Rattle.std.specs.Prelude.{◌≡◌, ◌^◌, ◌<◌, ◌≤◌, true, length};
 ghost use Rattle.std.specs.List.{list_all};
-ghost use Rattle.sched_plain.specs.Pieces.{is_digit, is_number, number_of, same};
+ghost use Rattle.expressions.specs.Pieces.{is_digit, is_number, number_of, same};
 
 pub(crate) fn is_digit(byte: u8) -> bool
     ensures { result ≡ is_digit byte }

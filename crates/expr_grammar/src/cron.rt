@@ -1,7 +1,8 @@
+//! Reads a cron: its six words, and the sets that they give.
 ghost use Rattle.std.specs.Prelude.{◌≡◌, ◌+◌, ◌^◌, ◌<◌, [], ◌∷◌, codes, length, IfSome, MatchOption};
-ghost use Rattle.sched_plain.specs.Lists.{first_some};
-ghost use Rattle.sched_plain.specs.Spelling.{Spells};
-ghost use Rattle.sched_plain.specs.ExpressionFaults.{cron_fault, days_fault, shape_fault, words_fault};
+ghost use Rattle.plain_words.specs.Lists.{first_some};
+ghost use Rattle.expressions.specs.Spelling.{Spells};
+ghost use Rattle.expressions.specs.ExpressionFaults.{cron_fault, days_fault, shape_fault, words_fault};
 ghost use Rattle.expr_grammar.specs.Answers.{Answers, enclosed};
 ghost use Rattle.expr_grammar.specs.Cron.{AllRead, EachRead, ReadAs, WordsSpell, faults_of, sets_by, words_of};
 ghost use Rattle.expr_grammar.specs.Items.{field_of};
@@ -14,7 +15,7 @@ use crate::field::Field;
 use crate::form::has_bare_ends;
 use crate::items::Items;
 use crate::words::{Piece, Words, next_word};
-use sched_plain::{CronSets, DayRule, Expr};
+use expressions::{CronSets, DayRule, Expr};
 
 /// How many bytes stand before what `cron(` and `)` enclose.
 const OPENING: usize = 5;

@@ -1,9 +1,11 @@
+//! Reads a field of a cron: its items from left to right, and whether they may stand together.
 ghost use Rattle.std.specs.Prelude.{◌≡◌, ◌+◌, ◌^◌, ◌<◌, ◌&&◌, List, length};
-ghost use Rattle.sched_plain.specs.Lists.{first_some};
-ghost use Rattle.sched_plain.specs.Pieces.{cut, placed};
-ghost use Rattle.sched_plain.specs.CronItems as cron;
-ghost use Rattle.sched_plain.specs.Spelling.{AreRows, IsRow};
-ghost use Rattle.sched_plain.specs.ExpressionFaults.{field_fault, item_fault, item_faults};
+ghost use Rattle.plain_words.specs.Lists.{first_some};
+ghost use Rattle.plain_words.specs.Bytes.{comma};
+ghost use Rattle.expressions.specs.Pieces.{cut, placed};
+ghost use Rattle.expressions.specs.CronItems as cron;
+ghost use Rattle.expressions.specs.Spelling.{AreRows, IsRow};
+ghost use Rattle.expressions.specs.ExpressionFaults.{field_fault, item_fault, item_faults};
 ghost use Rattle.expr_grammar.specs.Answers.{Answers};
 ghost use Rattle.expr_grammar.specs.Items.{HasStep, IsRead, Summarizes, field_of, item_of};
 ghost use Rattle.expr_grammar.specs.WordsLeft.{piece_of};
@@ -43,8 +45,8 @@ fn are_mixed(items: Items) -> bool
 /// Reads the items of a field from left to right.
 fn read_items(field: Field, word: Piece) -> Result<Items, ExprFault>
     requires { word.at + length word.text.now < 2 ^ 64 }
-    ensures { Answers result (first_some (item_faults (field_of field) (placed word.entry.at (cut 44 word.entry.text.now))))
-        (λ kept. (all : List cron.Item) × AreRows (field_of field) (cut 44 word.entry.text.now) all × Summarizes (field_of field) kept all) }
+    ensures { Answers result (first_some (item_faults (field_of field) (placed word.entry.at (cut comma word.entry.text.now))))
+        (λ kept. (all : List cron.Item) × AreRows (field_of field) (cut comma word.entry.text.now) all × Summarizes (field_of field) kept all) }
 {
     let mut items = no_items(field);
     let mut at = word.at;

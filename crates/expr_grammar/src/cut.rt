@@ -1,5 +1,6 @@
+//! Cuts a text at a byte.
 ghost use Rattle.std.specs.Prelude.{◌≡◌, ◌+◌, ◌==◌, ◌∷◌, [], length, position, ◌<◌, IfSome, MatchOption};
-ghost use Rattle.sched_plain.specs.Pieces.{cut};
+ghost use Rattle.expressions.specs.Pieces.{cut};
 ghost use Rattle.expr_grammar.specs.Parts.{ArePartsOf};
 
 /// The parts of a text between the bytes at which it is cut, as far as two.

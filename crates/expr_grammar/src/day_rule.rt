@@ -1,3 +1,4 @@
+//! The day rule of the two day fields of a cron.
 ghost use Rattle.std.specs.Prelude.{◌≡◌};
 ghost use Rattle.expr_grammar.specs.Items.{HasSmallRule};
 ghost use Rattle.expr_grammar.specs.Answers.{Answers};
@@ -6,7 +7,7 @@ ghost use Rattle.expr_grammar.specs.Cron.{first_of, month_rule_by, opens_no_rule
 use crate::fault::ExprFault;
 use crate::item::Item;
 use crate::items::Items;
-use sched_plain::DayRule;
+use expressions::DayRule;
 
 /// The rule of two day fields, of which exactly one gives no rule.
 pub(crate) fn day_rule(days: Items, week: Items, week_at: usize) -> Result<DayRule, ExprFault>

@@ -1,3 +1,4 @@
+//! Why a text is no expression.
 ghost use Rattle.std.specs.Prelude.{◌≡◌};
 
 /// Why a text is no expression. Faults are looked for in the order of their numbers: the shape of the
@@ -14,6 +15,7 @@ ghost use Rattle.std.specs.Prelude.{◌≡◌};
 /// | 6 | both day fields are `?` | the first byte of day of week |
 #[derive(Debug, Clone, Copy, PartialEq, Eq)]
 pub struct ExprFault {
+    /// Which fault it is, by its number in the table.
     pub number: u8,
     /// Where the fault is, in bytes from the text's first byte.
     pub at: usize,

@@ -1,6 +1,9 @@
+//! The fields of a cron and their values.
 ghost use Rattle.std.specs.Prelude.{◌≡◌};
-ghost use Rattle.sched_plain.specs.CronItems as cron;
+ghost use Rattle.expressions.specs.CronItems as cron;
 ghost use Rattle.expr_grammar.specs.Items.{field_of};
+
+use expressions::{FIRST_YEAR, LAST_YEAR};
 
 /// The fields of a cron, in their order.
 #[derive(Debug, Clone, Copy, PartialEq, Eq)]
@@ -20,7 +23,7 @@ pub(crate) fn least(field: Field) -> u16
     match field {
         Field::Minutes | Field::Hours => 0,
         Field::DayOfMonth | Field::Month | Field::DayOfWeek => 1,
-        Field::Year => 1970,
+        Field::Year => FIRST_YEAR,
     }
 }
 
@@ -34,7 +37,7 @@ pub(crate) fn greatest(field: Field) -> u16
         Field::DayOfMonth => 31,
         Field::Month => 12,
         Field::DayOfWeek => 7,
-        Field::Year => 2199,
+        Field::Year => LAST_YEAR,
     }
 }
 

@@ -1,7 +1,8 @@
+//! What stands between an opening and the closing bracket.
 ghost use Rattle.std.specs.Prelude.{◌≡◌, ◌+◌, ◌<◌, true, false, codes, length, nat_eq, IfSome};
 ghost use Rattle.std.specs.List.{ends_with};
 ghost use Rattle.std.specs.Option.{option_copied};
-ghost use Rattle.sched_plain.specs.Pieces.{has_bare_ends, inside};
+ghost use Rattle.expressions.specs.Pieces.{has_bare_ends, inside};
 ghost use Rattle.expr_grammar.specs.Answers.{enclosed};
 
 /// What stands between an opening, as `rate(`, and the closing bracket at the text's end.

@@ -1,5 +1,6 @@
+//! What an item of a cron's field means.
 ghost use Rattle.std.specs.Prelude.{◌≡◌, ◌&&◌};
-ghost use Rattle.sched_plain.specs.CronItems as cron;
+ghost use Rattle.expressions.specs.CronItems as cron;
 ghost use Rattle.expr_grammar.specs.Items.{HasStep, field_of, item_of};
 
 use crate::field::{Field, is_value};

@@ -1,9 +1,12 @@
+//! What is kept of the items of a field while they are read.
 ghost use Rattle.std.specs.Prelude.{◌≡◌, ◌+◌, ◌≤◌, ◌||◌, List, [], ◌∷◌, ◌++◌};
-ghost use Rattle.sched_plain.specs.CronItems as cron;
+ghost use Rattle.expressions.specs.CronItems as cron;
+ghost use Rattle.expressions.specs.Years.{upper_year};
 ghost use Rattle.expr_grammar.specs.Items.{HasStep, Summarizes, field_of, first_value, item_of};
 
 use crate::field::Field;
 use crate::item::{Item, contains, stands_alone};
+use expressions::FIRST_YEAR;
 
 /// What the items of a field give. Bit i of `low` and then of `high` is the field's first value and i.
 #[derive(Clone, Copy)]
@@ -56,7 +59,7 @@ pub(crate) fn first_value(field: Field) -> u16
     ensures { result ≡ first_value (field_of field) }
 {
     match field {
-        Field::Year => 1970,
+        Field::Year => FIRST_YEAR,
         _ => 0,
     }
 }
@@ -64,7 +67,7 @@ pub(crate) fn first_value(field: Field) -> u16
 /// The values of an item from one on, as bits.
 fn bits_from(first: u16, item: Item) -> u128
     requires step { HasStep (item_of item) }
-    requires room { first ≤ 2098 }
+    requires room { first ≤ upper_year }
     ensures { result ≡ cron.years_of first (item_of item ∷ []) }
 {
     let mut bits: u128 = 0;

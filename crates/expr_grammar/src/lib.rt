@@ -1,6 +1,6 @@
 //! The expressions of schedules, `at(..)`, `rate(..)` and `cron(..)`, read from text and printed
 //! (EventBridge Scheduler User Guide, "Schedule types"). What a text spells, its first fault and the
-//! canonical spelling are defined in `sched_plain`; nothing here keeps state.
+//! canonical spelling are defined in `expressions`; nothing here keeps state.
 #![tactic(auto)]
 
 mod at;
@@ -23,8 +23,6 @@ mod print_set;
 mod rate;
 mod read;
 mod row;
-#[cfg(test)]
-mod tests;
 mod value;
 mod value_set;
 mod words;

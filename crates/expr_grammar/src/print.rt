@@ -1,11 +1,12 @@
+//! Prints an expression in its canonical spelling.
 ghost use Rattle.std.specs.Prelude.{◌≡◌, ◌++◌, IfOk, OnOk};
-ghost use Rattle.sched_plain.specs.Canonical.{canonical};
-ghost use Rattle.sched_plain.specs.Spelling.{IsValidExpression, Spells};
+ghost use Rattle.expressions.specs.Canonical.{canonical};
+ghost use Rattle.expressions.specs.Spelling.{IsValidExpression, Spells};
 
 use crate::print_at::put_at;
 use crate::print_cron::put_cron;
 use crate::print_rate::put_rate;
-use sched_plain::Expr;
+use expressions::Expr;
 use std::alloc::{AllocError, Global};
 
 /// The canonical spelling of an expression (EventBridge Scheduler User Guide, "Schedule types"): single
@@ -24,7 +25,7 @@ pub fn print_expr(alloc: Global, expr: &Expr) -> Result<Vec<u8>, AllocError>
     Ok(text)
 }
 
-#[tactic(auto, unfolding(sched_plain::specs::Canonical::canonical))]
+#[tactic(auto, unfolding(expressions::specs::Canonical::canonical))]
 fn put_expr(text: &mut Vec<u8>, alloc: Global, expr: &Expr) -> Result<(), AllocError>
     ensures { OnOk result (text.new.items ≡ text.old.items ++ canonical expr.now) }
 {

@@ -1,8 +1,9 @@
+//! Prints an `at`.
 ghost use Rattle.std.specs.Prelude.{◌≡◌, ◌/◌, ◌++◌, codes, OnOk};
-ghost use Rattle.sched_plain.specs.Expressions.{at_text, two_digits};
+ghost use Rattle.expressions.specs.CivilSeconds.{at_text, two_digits};
 
 use crate::print_number::put_two_digits;
-use sched_plain::Civil;
+use expressions::Civil;
 use std::alloc::AllocError;
 
 /// Appends an `at`.

@@ -1,12 +1,14 @@
+//! Prints a cron.
 ghost use Rattle.std.specs.Prelude.{◌≡◌, [], ◌∷◌, ◌++◌, codes, decimal, OnOk};
-ghost use Rattle.sched_plain.specs.Canonical.{cron_text, days_text, has_bit, has_year, set_text, week_text};
-ghost use Rattle.sched_plain.specs.CronItems as cron;
+ghost use Rattle.expressions.specs.Canonical.{cron_text, days_text, set_text, week_text};
+ghost use Rattle.expressions.specs.Sets.{has_value, has_year};
+ghost use Rattle.expressions.specs.CronItems as cron;
 
 use crate::field::Field;
 use crate::print_number::put_number;
 use crate::print_set::put_set;
 use crate::value_set::ValueSet;
-use sched_plain::{CronSets, DayRule};
+use expressions::{CronSets, DayRule};
 use std::alloc::{AllocError, Global};
 
 /// Appends a cron.
@@ -33,8 +35,8 @@ pub(crate) fn put_cron(text: &mut Vec<u8>, alloc: Global, sets: &CronSets) -> Re
 
 /// Appends the minutes and the hours, each with a space behind it.
 fn put_time(text: &mut Vec<u8>, alloc: Global, sets: &CronSets) -> Result<(), AllocError>
-    ensures { OnOk result (text.new.items ≡ text.old.items ++ (set_text cron.minutes (has_bit sets.now.minutes) ++ codes " "
-        ++ set_text cron.hours (has_bit sets.now.hours) ++ codes " ")) }
+    ensures { OnOk result (text.new.items ≡ text.old.items ++ (set_text cron.minutes (has_value sets.now.minutes) ++ codes " "
+        ++ set_text cron.hours (has_value sets.now.hours) ++ codes " ")) }
 {
     put_set(text, alloc, Field::Minutes, ValueSet::Values(sets.minutes))?;
     text.push(b' ')?;

@@ -1,5 +1,6 @@
+//! Prints numbers.
 ghost use Rattle.std.specs.Prelude.{◌≡◌, ◌++◌, decimal, OnOk};
-ghost use Rattle.sched_plain.specs.Expressions.{two_digits};
+ghost use Rattle.expressions.specs.CivilSeconds.{two_digits};
 
 use std::alloc::{AllocError, Global};
 

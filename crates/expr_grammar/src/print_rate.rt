@@ -1,8 +1,9 @@
+//! Prints a rate.
 ghost use Rattle.std.specs.Prelude.{◌≡◌, ◌++◌, OnOk};
-ghost use Rattle.sched_plain.specs.Canonical.{rate_text, unit_text};
+ghost use Rattle.expressions.specs.Canonical.{rate_text, unit_text};
 
 use crate::print_number::put_number;
-use sched_plain::Unit;
+use expressions::Unit;
 use std::alloc::{AllocError, Global};
 
 /// Appends a rate.

@@ -1,6 +1,7 @@
+//! Prints the values of a cron's field as their maximal runs.
 ghost use Rattle.std.specs.Prelude.{◌≡◌, ℕ, ◌≤◌, List, ◌++◌, codes, if◌then◌else◌, IfOk, OnOk};
-ghost use Rattle.sched_plain.specs.Canonical.{run_text, set_text};
-ghost use Rattle.sched_plain.specs.CronItems as cron;
+ghost use Rattle.expressions.specs.Canonical.{run_text, set_text};
+ghost use Rattle.expressions.specs.CronItems as cron;
 ghost use Rattle.expr_grammar.specs.Items.{field_of};
 ghost use Rattle.expr_grammar.specs.ValueSets.{AreRunsOf, IsPrinted, IsSetOf, holds, run_at};
 
@@ -10,7 +11,7 @@ use crate::value_set::{ValueSet, begins_run, is_full, run_end};
 use std::alloc::{AllocError, Global};
 
 /// Appends the values of a field: `*` where it has them all, and else its maximal runs.
-#[tactic(auto, unfolding(sched_plain::specs::Canonical::set_text))]
+#[tactic(auto, unfolding(expressions::specs::Canonical::set_text))]
 pub(crate) fn put_set(
     text: &mut Vec<u8>,
     alloc: Global,

@@ -1,7 +1,8 @@
+//! Reads a rate.
 ghost use Rattle.std.specs.Prelude.{◌≡◌, ◌+◌, ◌^◌, ◌<◌, ◌≤◌, ◌||◌, codes, length, Some};
-ghost use Rattle.sched_plain.specs.Pieces.{same};
-ghost use Rattle.sched_plain.specs.Spelling.{AreRateWords, Spells, count_of, unit_of};
-ghost use Rattle.sched_plain.specs.ExpressionFaults.{count_fault, rate_fault, unit_fault, words_fault};
+ghost use Rattle.expressions.specs.Pieces.{same};
+ghost use Rattle.expressions.specs.Spelling.{AreRateWords, Spells, count_of, unit_of};
+ghost use Rattle.expressions.specs.ExpressionFaults.{count_fault, rate_fault, unit_fault, words_fault};
 ghost use Rattle.expr_grammar.specs.Answers.{Answers, enclosed};
 ghost use Rattle.expr_grammar.specs.WordsLeft.{left, texts};
 
@@ -9,7 +10,7 @@ use crate::bytes::{is_number, number};
 use crate::fault::ExprFault;
 use crate::form::has_bare_ends;
 use crate::words::{Piece, Words, next_word};
-use sched_plain::{Expr, Unit};
+use expressions::{Expr, Unit};
 
 /// How many bytes stand before what `rate(` and `)` enclose.
 const OPENING: usize = 5;

@@ -1,7 +1,8 @@
+//! Reads an expression.
 ghost use Rattle.std.specs.Prelude.{◌≡◌, ◌↔◌, ℕ, Some, Ok, Err, IfOk};
-ghost use Rattle.sched_plain.specs.declared.expression.Expr.{Expr};
-ghost use Rattle.sched_plain.specs.Spelling.{IsValidExpression, Spells};
-ghost use Rattle.sched_plain.specs.ExpressionFaults.{fault};
+ghost use Rattle.expressions.specs.declared.expression.Expr.{Expr};
+ghost use Rattle.expressions.specs.Spelling.{IsValidExpression, Spells};
+ghost use Rattle.expressions.specs.ExpressionFaults.{fault};
 ghost use Rattle.expr_grammar.specs.declared.fault.ExprFault.{ExprFault};
 ghost use Rattle.expr_grammar.specs.Answers.{Answers, told};
 
@@ -10,10 +11,12 @@ use crate::cron::read_cron;
 use crate::fault::ExprFault;
 use crate::form::inside;
 use crate::rate::read_rate;
-use sched_plain::Expr;
+use expressions::Expr;
 
 /// Reads an expression (EventBridge Scheduler User Guide, "Schedule types"). The text is gone over
 /// once, from left to right; it may have any bytes and any length, and no memory is taken.
+///
+/// Fails where the text spells no expression, with its first fault in the order of [`ExprFault`].
 pub fn read_expr(text: &[u8]) -> Result<Expr, ExprFault>
     // The expression exactly where the text spells it, else exactly the first fault at its place.
     ensures spelled { (e : Expr) → (result ≡ Ok e) ↔ Spells text.now e }

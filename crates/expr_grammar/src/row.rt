@@ -1,7 +1,9 @@
+//! The table of the items of a cron's fields.
 ghost use Rattle.std.specs.Prelude.{◌≡◌, ◌+◌, ◌-◌, ◌<◌, ◌≤◌, Some, None, [], ◌∷◌, length, if◌then◌else◌};
 ghost use Rattle.std.specs.Option.{option_copied, option_map};
-ghost use Rattle.sched_plain.specs.Pieces.{cut, is_number, number_of};
-ghost use Rattle.sched_plain.specs.CronItems as cron;
+ghost use Rattle.plain_words.specs.Bytes.{dash};
+ghost use Rattle.expressions.specs.Pieces.{cut, is_number, number_of};
+ghost use Rattle.expressions.specs.CronItems as cron;
 ghost use Rattle.expr_grammar.specs.Items.{field_of, item_of, stepped_row};
 
 use crate::bytes::{is_number, is_text, number};
@@ -11,7 +13,7 @@ use crate::item::Item;
 use crate::value::{is_name, step, value};
 
 /// The item that a piece spells in a field, its numbers in range or not.
-#[tactic(auto, unfolding(sched_plain::specs::CronItems::row))]
+#[tactic(auto, unfolding(expressions::specs::CronItems::row))]
 pub(crate) fn row(field: Field, text: &[u8]) -> Option<Item>
     ensures { option_map item_of result ≡ cron.row (field_of field) text.now }
 {
@@ -24,7 +26,7 @@ pub(crate) fn row(field: Field, text: &[u8]) -> Option<Item>
 
 /// An item without a step.
 fn base(field: Field, text: &[u8]) -> Option<Item>
-    ensures { option_map item_of result ≡ cron.row_of_parts (field_of field) (cut 45 text.now ∷ []) }
+    ensures { option_map item_of result ≡ cron.row_of_parts (field_of field) (cut dash text.now ∷ []) }
 {
     match cut_in_two(b'-', text) {
         Parts::One => single(field, text),
@@ -72,7 +74,7 @@ fn range(field: Field, from: &[u8], to: &[u8], by: u16) -> Option<Item>
 
 /// An item with a step.
 fn stepped(field: Field, base: &[u8], by: &[u8]) -> Option<Item>
-    ensures { option_map item_of result ≡ cron.row_of_parts (field_of field) (cut 45 base.now ∷ cut 45 by.now ∷ []) }
+    ensures { option_map item_of result ≡ cron.row_of_parts (field_of field) (cut dash base.now ∷ cut dash by.now ∷ []) }
 {
     let Some(by) = step_in(field, by) else {
         return None;

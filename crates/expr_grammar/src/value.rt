@@ -1,7 +1,8 @@
+//! Values, names and steps in a cron's fields.
 ghost use Rattle.std.specs.Prelude.{◌≡◌, ◌+◌, ◌-◌, ◌<◌, ◌≤◌, ◌^◌, length, map};
 ghost use Rattle.std.specs.Option.{option_copied};
-ghost use Rattle.sched_plain.specs.Pieces.{same, upper};
-ghost use Rattle.sched_plain.specs.CronItems as cron;
+ghost use Rattle.expressions.specs.Pieces.{same, upper};
+ghost use Rattle.expressions.specs.CronItems as cron;
 ghost use Rattle.expr_grammar.specs.Items.{field_of};
 
 use crate::bytes::{is_number, number};

@@ -1,11 +1,14 @@
+//! The values of a field that an expression picks, and their runs.
 ghost use Rattle.std.specs.Prelude.{◌≡◌, ℕ, ◌≤◌, ◌<◌, ◌+◌, ◌-◌};
-ghost use Rattle.sched_plain.specs.Canonical.{all_pass, begins_run, run_end};
-ghost use Rattle.sched_plain.specs.CronItems as cron;
+ghost use Rattle.expressions.specs.Canonical.{all_pass, begins_run, run_end};
+ghost use Rattle.expressions.specs.CronItems as cron;
+ghost use Rattle.expressions.specs.Years.{first_year, upper_year};
 ghost use Rattle.expr_grammar.specs.declared.value_set.ValueSet.TheVariants as sets;
 ghost use Rattle.expr_grammar.specs.Items.{field_of};
 ghost use Rattle.expr_grammar.specs.ValueSets.{CanHold, IsSetOf, holds};
 
 use crate::field::{Field, greatest, least};
+use expressions::{FIRST_YEAR, UPPER_YEAR};
 
 /// The values of a cron's field that an expression picks.
 #[derive(Clone, Copy)]
@@ -28,14 +31,14 @@ pub(crate) fn holds(set: ValueSet, value: u16) -> bool
 }
 
 fn holds_year(low: u128, high: u128, year: u16) -> bool
-    requires first { 1970 ≤ year }
-    requires last { year < 2226 }
+    requires first { first_year ≤ year }
+    requires last { year < upper_year + 128 }
     ensures { result ≡ holds (sets.Years low high) year }
 {
-    if year < 2098 {
-        (low >> (year - 1970)) & 1 == 1
+    if year < UPPER_YEAR {
+        (low >> (year - FIRST_YEAR)) & 1 == 1
     } else {
-        (high >> (year - 2098)) & 1 == 1
+        (high >> (year - UPPER_YEAR)) & 1 == 1
     }
 }
 

@@ -1,5 +1,7 @@
+//! The words of a text, one or more spaces apart.
 ghost use Rattle.std.specs.Prelude.{◌≡◌, ◌+◌, ◌^◌, ◌<◌, ◌≤◌, ◌==◌, ◌∷◌, [], not, length, position, IfSome, MatchOption};
 ghost use Rattle.std.specs.List.{position_or_len};
+ghost use Rattle.plain_words.specs.Bytes.{space};
 ghost use Rattle.expr_grammar.specs.WordsLeft.{left, piece_of};
 
 /// A word or an item of a text, and the place of its first byte.
@@ -42,14 +44,14 @@ pub(crate) fn next_word<'a>(words: Words<'a>) -> Option<(Piece<'a>, Words<'a>)>
 /// How many spaces are in front.
 #[tactic(auto, using(crate::proofs::Cuts::place_or_length, crate::proofs::Cuts::place_within))]
 fn space_count(text: &[u8]) -> usize
-    ensures value { result ≡ position_or_len (λ b. not (b == 32)) text.now }
+    ensures value { result ≡ position_or_len (λ b. not (b == space)) text.now }
     ensures bound { result ≤ length text.now }
 {
     first_other(text).unwrap_or(text.len())
 }
 
 fn first_other(text: &[u8]) -> Option<usize>
-    ensures { result ≡ position (λ b. not (b == 32)) text.now }
+    ensures { result ≡ position (λ b. not (b == space)) text.now }
 {
     text.iter().position(|byte| *byte != b' ')
 }
@@ -57,14 +59,14 @@ fn first_other(text: &[u8]) -> Option<usize>
 /// How many bytes stand before the first space.
 #[tactic(auto, using(crate::proofs::Cuts::place_or_length, crate::proofs::Cuts::place_within))]
 fn word_length(text: &[u8]) -> usize
-    ensures value { result ≡ position_or_len (λ b. b == 32) text.now }
+    ensures value { result ≡ position_or_len (λ b. b == space) text.now }
     ensures bound { result ≤ length text.now }
 {
     first_space(text).unwrap_or(text.len())
 }
 
 fn first_space(text: &[u8]) -> Option<usize>
-    ensures { result ≡ position (λ b. b == 32) text.now }
+    ensures { result ≡ position (λ b. b == space) text.now }
 {
     text.iter().position(|byte| *byte == b' ')
 }

@@ -5,11 +5,13 @@ use Rattle.httparse.specs.Grammar.{RequestHead, print_request}
 use Rattle.httparse.proofs.GrammarLemmas.{request_unique, ReadsRequest-append}
 use Rattle.http_wire.specs.declared.request.HttpRequest.{HttpRequest}
 use Rattle.http_wire.specs.Devices.{Gives}
-use Rattle.http_wire.specs.Framing.{Message, message_bytes, IsFramed, HasNoMessage, length_of_fields, request_of, TakesRequest, TakesPart, TakesAtMostOne, HasNothingBehind, Holds, HoldsOneList}
+use Rattle.http_wire.specs.Framing.{Message, message_bytes, IsFramed, HasNoMessage, IsNoMessage, length_of_fields, request_of, TakesRequest, TakesPart, TakesAtMostOne, HasNothingBehind, Holds, HoldsOneList}
 use Rattle.std.specs.List.{flat_map}
 use Rattle.std.proofs.lemmas.List.Elements.{All-head, All-tail}
-use Rattle.http_wire.specs.Heads.{BeginsWithHead, HasNoShortHead, IsHead, TakesNoHead, TakesAtMostHead, TakesFewer, TakesUpTo}
+use Rattle.http_wire.specs.declared.limits.TheConstants.{HEAD_LIMIT}
+use Rattle.http_wire.specs.Heads.{BeginsWithHead, IsNoShortHead, IsHead, TakesNoHead, TakesAtMostHead, TakesFewer, TakesUpTo}
 use Rattle.http_wire.proofs.DeviceLemmas.{Gives-append}
+use Rattle.http_wire.proofs.HeadLemmas.{HasNoHead-nil}
 
 -- what a head says of the length of its body, as a reader answered it
 abbrev pub SaysLength : List ℕ → Option ℕ → Type 0
@@ -29,10 +31,17 @@ message_begins bytes m rest framed e = record {
 }
 
 -- where no head stands there is no message
-pub no_message : (before : Option (List ℕ)) → IfSome before HasNoShortHead → IfSome before HasNoMessage
-no_message None none = tt
-no_message (Some bytes) none = λ m rest framed e.
-    none m.head (m.body ++ rest) (message_begins bytes m rest framed e) framed.short
+pub no_message : (before : Option (List ℕ)) → IfSome before IsNoShortHead → IfSome before IsNoMessage
+no_message None is_none = tt
+no_message (Some bytes) is_none = record {
+  something = is_none.something;
+  none = λ m rest framed e. is_none.none m.head (m.body ++ rest) (message_begins bytes m rest framed e) framed.short;
+}
+
+-- what stands behind a head stands behind something
+behind_head : (head rest : List ℕ) → IsHead head → 0 < length (head ++ rest)
+behind_head [] rest is = absurd (HasNoHead-nil is.head [] is.begins)
+behind_head (byte ∷ head) rest is = omega (arith, length-append {A = ℕ})
 
 -- the head of a message behind a head that was read is that head, and its body stands behind it
 pub same_head : (head rest : List ℕ) (is : IsHead head) (m : Message) (more : List ℕ) → IsFramed m
@@ -74,14 +83,16 @@ within_bytes head rest said n is says some within m more framed eq =
 
 -- so it is for what a source tells
 pub unsized : (before after : Option (List ℕ)) (head : List ℕ) (said : Option ℕ) → IsHead head → Gives before head after
-    → SaysLength head said → said ≡ None → IfSome before HasNoMessage
+    → SaysLength head said → said ≡ None → IfSome before IsNoMessage
 unsized before None head said is e says none = rw e tt
-unsized before (Some rest) head said is e says none = rw e (unsized_bytes head rest said is says none)
+unsized before (Some rest) head said is e says none =
+    rw e (record { something = behind_head head rest is; none = unsized_bytes head rest said is says none })
 
 pub cut_body : (before middle : Option (List ℕ)) (head : List ℕ) (said : Option ℕ) (n : ℕ) → IsHead head → Gives before head middle
-    → SaysLength head said → said ≡ Some n → IfSome middle (λ left. length left < n) → IfSome before HasNoMessage
+    → SaysLength head said → said ≡ Some n → IfSome middle (λ left. length left < n) → IfSome before IsNoMessage
 cut_body before None head said n is e says some fewer = rw e tt
-cut_body before (Some rest) head said n is e says some fewer = rw e (cut_bytes head rest said n is says some fewer)
+cut_body before (Some rest) head said n is e says some fewer =
+    rw e (record { something = behind_head head rest is; none = cut_bytes head rest said n is says some fewer })
 
 -- and for what was taken: a head that says no length
 pub part_unsized : (before after : Option (List ℕ)) (head : List ℕ) (said : Option ℕ) → IsHead head → Gives before head after
@@ -181,7 +192,7 @@ pub takes_request : (before middle after : Option (List ℕ)) (head body : List 
     → length body ≡ n → Gives middle body after → MakesRequest head body request → TakesRequest before request after
 takes_request before middle after head body said n request is e says some long f makes =
     let whole : head ≡ print_request is.head = is.begins.reads.1 ∙ append-nil (print_request is.head) in
-    let P : List ℕ → Type 0 = λ l. length l ≤ 16384 in
+    let P : List ℕ → Type 0 = λ l. length l ≤ HEAD_LIMIT in
     let Q : List ℕ → Type 0 = λ l. Gives before (l ++ body) after in
     record {
       message = record { head = is.head; body = body };

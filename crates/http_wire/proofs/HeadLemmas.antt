@@ -1,9 +1,10 @@
 -- Facts on the front of a stream that is, or is not, the head of a request.
-use Rattle.std.proofs.Common.{◌≡◌, ◌≢◌, ℕ, ◌-◌, ◌≤◌, List, [], ◌∷◌, ◌++◌, length, drop, Option, Some, None, IfSome, refl, sym, ap, subst, ◌∙◌, append_assoc, append-nil, arith, length-append}
+use Rattle.std.proofs.Common.{◌≡◌, ◌≢◌, ℕ, ◌-◌, ◌<◌, ◌≤◌, List, [], ◌∷◌, ◌++◌, length, drop, Option, Some, None, IfSome, refl, sym, ap, subst, ◌∙◌, append_assoc, append-nil, arith, length-append}
 use Rattle.std.proofs.lemmas.List.{same_from_push}
 use Rattle.httparse.specs.Grammar.{RequestHead, LineEnd, crlf, lf, print_end, print_request}
 use Rattle.http_wire.specs.Devices.{Gives}
-use Rattle.http_wire.specs.Heads.{BeginsWithHead, HasNoHead, NeverHasHead, HasNoShortHead, HasNothingBehindHead, TakesFewer, TakesUpTo}
+use Rattle.http_wire.specs.declared.limits.TheConstants.{HEAD_LIMIT}
+use Rattle.http_wire.specs.Heads.{BeginsWithHead, HasNoHead, NeverHasHead, IsNoShortHead, HasNothingBehindHead, TakesFewer, TakesUpTo}
 use Rattle.http_wire.proofs.DeviceLemmas.{Gives-append}
 
 -- a list that ends in this element
@@ -61,19 +62,29 @@ HasNoHead-nil h rest begins =
     let empty : length {A = ℕ} [] ≡ length ((init ++ 10 ∷ []) ++ rest) = ap length (begins.reads.1 ∙ ap (λ l. l ++ rest) ends) in
     absurd (omega (arith, empty, length-append {A = ℕ}))
 
+-- what stands behind bytes that were read stands behind something
+some_behind : (head rest : List ℕ) → 0 < length head → 0 < length (head ++ rest)
+some_behind head rest some = omega (arith, some, length-append {A = ℕ})
+
 -- at its end the stream has no head, where what was read has none
 pub unframed_at_end : (before after : Option (List ℕ)) (head : List ℕ) → Gives before head after
-    → IfSome after (λ bytes. bytes ≡ []) → HasNoHead head → IfSome before HasNoShortHead
-unframed_at_end before None head e ends none = rw e tt
-unframed_at_end before (Some rest) head e ends none =
+    → IfSome after (λ bytes. bytes ≡ []) → HasNoHead head → 0 < length head → IfSome before IsNoShortHead
+unframed_at_end before None head e ends none some = rw e tt
+unframed_at_end before (Some rest) head e ends none some =
     let P : RequestHead → List ℕ → List ℕ → Type 0 = λ h more l. BeginsWithHead l h more in
-    rw (e, ends) (λ h more begins short. none h more (subst (P h more) (append-nil head) begins))
+    rw (e, ends) (record {
+      something = some_behind head [] some;
+      none = λ h more begins short. none h more (subst (P h more) (append-nil head) begins);
+    })
 
 -- nor where what was read never has one
 pub unframed_for_ever : (before after : Option (List ℕ)) (head : List ℕ) → Gives before head after
-    → NeverHasHead head → IfSome before HasNoShortHead
-unframed_for_ever before None head e never = rw e tt
-unframed_for_ever before (Some rest) head e never = rw e (λ h more begins short. never rest h more begins)
+    → NeverHasHead head → 0 < length head → IfSome before IsNoShortHead
+unframed_for_ever before None head e never some = rw e tt
+unframed_for_ever before (Some rest) head e never some = rw e (record {
+  something = some_behind head rest some;
+  none = λ h more begins short. never rest h more begins;
+})
 
 -- of two splits of one list, the shorter front is a front of the longer one
 pub front_within : (a b c d : List ℕ) → a ++ b ≡ c ++ d → length c ≤ length a → a ≡ c ++ drop (length c) a
@@ -87,13 +98,16 @@ front_within (y ∷ a) b (x ∷ c) d e le =
 
 -- nor where as many bytes as a head may have hold none
 pub unframed_at_limit : (before after : Option (List ℕ)) (head : List ℕ) → Gives before head after
-    → HasNoHead head → length head ≡ 16384 → IfSome before HasNoShortHead
+    → HasNoHead head → length head ≡ HEAD_LIMIT → IfSome before IsNoShortHead
 unframed_at_limit before None head e none full = rw e tt
-unframed_at_limit before (Some rest) head e none full = rw e (λ h more begins short.
-    none h (drop (length (print_request h)) head) (record {
-      reads = (begins.reads.0, front_within head rest (print_request h) more begins.reads.1 (omega (arith, short, full)));
-      fields = begins.fields;
-    }))
+unframed_at_limit before (Some rest) head e none full = rw e (record {
+  something = some_behind head rest (omega (arith, full));
+  none = λ h more begins short.
+      none h (drop (length (print_request h)) head) (record {
+        reads = (begins.reads.0, front_within head rest (print_request h) more begins.reads.1 (omega (arith, short, full)));
+        fields = begins.fields;
+      });
+})
 
 -- bytes that never make a head have none
 pub never_none : (head : List ℕ) → NeverHasHead head → HasNoHead head

@@ -1,5 +1,5 @@
-pub mod ByteLemmas
+mod ByteLemmas
 pub mod DeviceLemmas
-pub mod HeadLemmas
-pub mod HeaderLemmas
-pub mod FrameLemmas
+mod HeadLemmas
+mod HeaderLemmas
+mod FrameLemmas

@@ -1,13 +1,6 @@
 -- What the devices that bytes come from and go to tell to a clause. A device in memory tells what it
 -- holds, a real one tells nothing: `None`.
-use Rattle.std.specs.Prelude.{◌≡◌, ℕ, ◌≤◌, List, ◌++◌, length, take, Option, Result, option_map, OnOk, OnErr}
-use Rattle.sched_plain.specs.Outside.{Rose}
-
--- a call kept the device's count of faults where it succeeded, and raised it where it failed
-pub record HasCause {A E : Type 0} (before now : ℕ) (result : Result A E) : Type 0 where
-  pub later : before ≤ now
-  pub quiet : OnOk result (now ≡ before)
-  pub failed : OnErr result (Rose before now)
+use Rattle.std.specs.Prelude.{◌≡◌, ℕ, ◌≤◌, List, ◌++◌, length, take, Option, option_map}
 
 -- these bytes were taken from a source that told what was left before, and tells what is left after
 abbrev pub Gives : Option (List ℕ) → List ℕ → Option (List ℕ) → Type 0

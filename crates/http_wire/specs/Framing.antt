@@ -1,14 +1,14 @@
 -- How requests stand in a stream of bytes (RFC 9112): one behind the other, each a head as `httparse`
 -- reads it and a body of as many bytes as Content-Length says.
-use Rattle.std.specs.Prelude.{◌≡◌, ℕ, ◌≤◌, ◌&&◌, nat_le, if◌then◌else◌, List, [], ◌∷◌, ◌++◌, length, map, All, Option, Some, None, codes}
-use Rattle.std.specs.List.{flat_map, list_all}
-use Rattle.std.specs.Char.{is_ascii_digit}
+use Rattle.std.specs.Prelude.{◌≡◌, ℕ, ◌<◌, ◌≤◌, if◌then◌else◌, List, [], ◌∷◌, ◌++◌, length, map, All, Option, Some, None, codes}
+use Rattle.std.specs.List.{flat_map}
 use Rattle.std.specs.Str.{str_eq_ignore_ascii_case}
-use Rattle.std.specs.Str.Parse.{digits_value}
 use Rattle.httparse.specs.Grammar.{Field, RequestHead, IsRequestHead, print_request}
 use Rattle.httparse.specs.Spans.{name_and_value}
 use Rattle.http_wire.specs.declared.request.HttpRequest.{HttpRequest}
+use Rattle.http_wire.specs.declared.limits.TheConstants.{HEAD_LIMIT, HEADER_LIMIT, BODY_LIMIT, LENGTH_DIGITS}
 use Rattle.http_wire.specs.Devices.{Gives}
+use Rattle.http_wire.specs.Digits.{number_within}
 
 -- the values of the headers of this name, in their order; the case of letters in names does not count
 abbrev pub values_in : List ℕ → List (List ℕ × List ℕ) → List (List ℕ)
@@ -20,12 +20,9 @@ values_in name ((other, value) ∷ rest) =
 abbrev pub values_of : List ℕ → List Field → List (List ℕ)
 values_of name fields = values_in name (map name_and_value fields)
 
--- the number that 1 to 6 digits write, where a body may be as long
+-- the length that the digits of Content-Length write, where a body may be as long
 abbrev pub length_value : List ℕ → Option ℕ
-length_value digits =
-    if nat_le 1 (length digits) && nat_le (length digits) 6 && list_all is_ascii_digit digits
-    && nat_le (digits_value 10 digits) 262144
-    then Some (digits_value 10 digits) else None
+length_value digits = number_within LENGTH_DIGITS BODY_LIMIT digits
 
 -- the length of the body that these values of Content-Length say: 0 for none, and no length for more than one
 abbrev pub body_length : List (List ℕ) → Option ℕ
@@ -52,12 +49,12 @@ pub record Message : Type 0 where
 abbrev pub message_bytes : Message → List ℕ
 message_bytes m = print_request m.head ++ m.body
 
--- a message that is framed: its head is one of the grammar, with at most 64 headers in at most 16,384 bytes,
--- and says the length of its body
+-- a message that is framed: its head is one of the grammar, with at most 64 headers in at most 16,384 bytes, and says
+-- the length of its body
 pub record IsFramed (m : Message) : Type 0 where
   pub head : IsRequestHead m.head
-  pub fields : length m.head.fields ≤ 64
-  pub short : length (print_request m.head) ≤ 16384
+  pub fields : length m.head.fields ≤ HEADER_LIMIT
+  pub short : length (print_request m.head) ≤ HEAD_LIMIT
   pub sized : length_of_fields m.head.fields ≡ Some (length m.body)
 
 -- the request that a message makes
@@ -72,6 +69,11 @@ request_of m = record {
 -- no framed message stands at the front of these bytes
 abbrev pub HasNoMessage : List ℕ → Type 0
 HasNoMessage bytes = (m : Message) (rest : List ℕ) → IsFramed m → ¬ (bytes ≡ message_bytes m ++ rest)
+
+-- something stands here, and no framed message at its front
+pub record IsNoMessage (bytes : List ℕ) : Type 0 where
+  pub something : 0 < length bytes
+  pub none : HasNoMessage bytes
 
 -- a stream holds these messages one behind the other, and no message stands behind the last
 pub record Holds (bytes : List ℕ) (messages : List Message) (rest : List ℕ) : Type 0 where

@@ -2,13 +2,14 @@
 use Rattle.std.specs.Prelude.{◌≡◌, ℕ, ◌<◌, ◌≤◌, List, [], ◌∷◌, ◌++◌, length, Option}
 use Rattle.http_wire.specs.Devices.{Gives}
 use Rattle.httparse.specs.Grammar.{RequestHead, ReadsRequest, print_request}
+use Rattle.http_wire.specs.declared.limits.TheConstants.{HEAD_LIMIT, HEADER_LIMIT}
 use Rattle.http_wire.specs.declared.framing.header_values.Held.{Held}
 use Rattle.http_wire.specs.declared.framing.header_values.Held.TheVariants.{Absent, Once, Repeated}
 
 -- a head with at most 64 headers stands at the front of these bytes
 pub record BeginsWithHead (bytes : List ℕ) (h : RequestHead) (rest : List ℕ) : Type 0 where
   pub reads : ReadsRequest bytes h rest
-  pub fields : length h.fields ≤ 64
+  pub fields : length h.fields ≤ HEADER_LIMIT
 
 -- no such head stands at the front
 abbrev pub HasNoHead : List ℕ → Type 0
@@ -22,12 +23,17 @@ NeverHasHead bytes = (more : List ℕ) → HasNoHead (bytes ++ more)
 pub record IsHead (bytes : List ℕ) : Type 0 where
   pub head : RequestHead
   pub begins : BeginsWithHead bytes head []
-  pub short : length bytes ≤ 16384
+  pub short : length bytes ≤ HEAD_LIMIT
 
 -- no head with at most 64 headers in at most 16,384 bytes stands at the front
 abbrev pub HasNoShortHead : List ℕ → Type 0
 HasNoShortHead bytes =
-    (h : RequestHead) (rest : List ℕ) → BeginsWithHead bytes h rest → length (print_request h) ≤ 16384 → ⊥
+    (h : RequestHead) (rest : List ℕ) → BeginsWithHead bytes h rest → length (print_request h) ≤ HEAD_LIMIT → ⊥
+
+-- something stands here, and no such head at its front
+pub record IsNoShortHead (bytes : List ℕ) : Type 0 where
+  pub something : 0 < length bytes
+  pub none : HasNoShortHead bytes
 
 -- these are the values of a header, as far as more than one of them matters
 abbrev pub HoldsValues : Held → List (List ℕ) → Type 0

@@ -1,4 +1,5 @@
 pub mod Devices
+pub mod Digits
 pub mod Memory
 pub mod Framing
 pub mod Heads

@@ -2,9 +2,15 @@
 use Rattle.std.specs.Prelude.{ℕ, List, [], ◌∷◌, ◌++◌, length, Option, Some, None, codes, decimal, unwrap_or, if◌then◌else◌, ◌==◌}
 use Rattle.http.specs.StatusCode.{reason_phrase}
 
--- what ends a line: CR LF
+-- the two bytes that end a line
+abbrev pub carriage_return : ℕ
+carriage_return = 13
+
+abbrev pub line_feed : ℕ
+line_feed = 10
+
 abbrev pub line_end : List ℕ
-line_end = 13 ∷ 10 ∷ []
+line_end = carriage_return ∷ line_feed ∷ []
 
 -- the status with its standard phrase
 abbrev pub status_line : ℕ → List ℕ

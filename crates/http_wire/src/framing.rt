@@ -2,24 +2,23 @@
 //! byte, the body in blocks.
 ghost use Rattle.std.specs.Prelude.{◌≡◌, ◌≢◌, ◌+◌, ◌^◌, ◌<◌, ◌≤◌, ℕ, List, [], ◌++◌, length, None, Ok, IfOk, IfErr, IfSome};
 ghost use Rattle.httparse.specs.Grammar.{RequestHead};
-ghost use Rattle.sched_plain.specs.Outside.{Rose};
-ghost use Rattle.http_wire.specs.Framing.{request_of, HoldsOneList, HasNoMessage, TakesRequest, TakesPart, TakesAtMostOne};
+ghost use Rattle.outside.specs.Faults.{Rose};
+ghost use Rattle.http_wire.specs.Framing.{request_of, HoldsOneList, IsNoMessage, TakesRequest, TakesPart, TakesAtMostOne};
 ghost use Rattle.http_wire.specs.Heads.{BeginsWithHead};
 
 mod body;
 mod head;
 mod header_values;
 
+use crate::limits::{BODY_LIMIT, HEAD_LIMIT, HEADER_LIMIT};
 use crate::request::HttpRequest;
 use crate::source::Source;
 use body::read_body;
-pub use head::HEAD_LIMIT;
-use head::{HEADER_LIMIT, read_head};
-pub use header_values::BODY_LIMIT;
+use head::read_head;
 use header_values::{length_of, values_of};
 use httparse::Status;
 use httparse::spans::{EMPTY_HEADER_SPAN, parse_request};
-use sched_plain::Blob;
+use plain_words::Blob;
 use std::alloc::{AllocError, Global};
 
 /// Why no request was read.
@@ -53,7 +52,7 @@ fn request_from(alloc: Global, head: &[u8], body: Vec<u8>) -> Result<HttpRequest
 
 /// Reads one request and not one byte more, or none where the source is at its end before a first byte.
 ///
-/// `Unframed` says that no request stands there; what was read then is lost.
+/// `Unframed` says that something stands there, and it is no request; what was read then is lost.
 pub fn read_request<S: Source>(
     alloc: Global,
     source: &mut S,
@@ -63,7 +62,7 @@ pub fn read_request<S: Source>(
     ensures ended { result ≡ Ok None
         → IfSome (S.left source.old) (λ bytes. bytes ≡ []) × (S.left source.new ≡ S.left source.old) }
     ensures unframed { IfErr result (λ e. e ≡ FrameFault.Unframed
-        → IfSome (S.left source.old) HasNoMessage) }
+        → IfSome (S.left source.old) IsNoMessage) }
     ensures part { IfErr result (λ e. e ≢ FrameFault.OutOfMemory
         → TakesPart (S.left source.old) (S.left source.new)) }
     ensures wanting { IfErr result (λ e. e ≡ FrameFault.OutOfMemory

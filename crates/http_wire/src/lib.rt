@@ -5,15 +5,18 @@
 //! their counts of faults. Which requests there are, and what they are answered, is not known here.
 #![tactic(auto)]
 
-mod failing_calls;
+mod digits;
 mod framing;
+mod limits;
 mod refusal;
 mod request;
 mod response;
 mod sink;
 mod source;
 
-pub use framing::{BODY_LIMIT, FrameFault, HEAD_LIMIT, frames_one_list, read_request};
+pub use digits::{MOST_DIGITS, number_within};
+pub use framing::{FrameFault, frames_one_list, read_request};
+pub use limits::{BODY_LIMIT, HEAD_LIMIT, HEADER_LIMIT, LENGTH_DIGITS};
 pub use refusal::{memory_response, write_refusal};
 pub use request::HttpRequest;
 pub use response::write_response;

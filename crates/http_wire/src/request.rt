@@ -1,4 +1,4 @@
-use sched_plain::{Blob, Items};
+use plain_words::{Blob, Items};
 
 /// A request as it was framed (RFC 9112), with the parts that the scheduler looks at.
 #[derive(Debug, Drop)]

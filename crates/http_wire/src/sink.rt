@@ -1,8 +1,10 @@
 //! Where responses go.
-ghost use Rattle.std.specs.Prelude.{◌≡◌, ℕ, ◌+◌, ◌-◌, ◌^◌, ◌<◌, ◌≤◌, min, List, [], length, take, Option, Some, None, IfOk, OnOk, OnErr};
-ghost use Rattle.http_wire.specs.Devices.{HasCause, Gets, GetsPart};
+ghost use Rattle.std.specs.Prelude.{◌≡◌, ℕ, ◌+◌, ◌-◌, ◌^◌, ◌<◌, ◌≤◌, min, List, [], length, take, Option, Some, None, Contains, IfOk, IsErr, OnOk, OnErr};
+ghost use Rattle.http_wire.specs.Devices.{Gets, GetsPart};
+ghost use Rattle.http_wire.specs.Memory.{CountsCall};
+ghost use Rattle.outside.specs.Faults.{HasCause};
 
-use crate::failing_calls::FailingCalls;
+use outside::FailingCalls;
 use std::alloc::Global;
 use std::io::Write;
 use std::marker::Model;
@@ -58,21 +60,21 @@ impl Model for MemSink {
 
     ghost Value = { MemoryBytes };
 
-    ghost view = { λ s. record {
-      bytes = s.bytes.items;
-      failing = s.failing.numbers.items;
-      calls = s.failing.calls;
-      faults = s.failing.faults;
-    } };
+    ghost view = { λ s. record { bytes = s.bytes.items; most = s.most; failing = s.failing } };
 
     ghost invariant = { λ s. 0 < s.most };
 }
 
 impl MemSink {
-    /// An empty sink, whose calls with the numbers in `failing` fail, counted from 1.
+    /// An empty sink, of which one call takes at most `most` bytes, and whose calls with the numbers in `failing` fail,
+    /// counted from 1.
     pub fn new(alloc: Global, most: usize, failing: Vec<u64>) -> Self
         requires { 0 < most }
-        ensures { result ≡ record { bytes = []; failing = failing.items; calls = 0; faults = 0 } }
+        ensures { result ≡ record {
+          bytes = [];
+          most = most;
+          failing = record { numbers = failing.items; calls = 0; faults = 0 };
+        } }
     {
         MemSink {
             bytes: Vec::new(alloc),
@@ -90,11 +92,23 @@ impl MemSink {
 }
 
 impl Sink for MemSink {
-    ghost faults = { λ s. s.faults };
+    ghost faults = { λ s. s.failing.faults };
 
     ghost got = { λ s. Some s.bytes };
 
-    fn write(&mut self, bytes: &[u8]) -> Result<usize, SinkFailed> {
+    /// Fails where the number of the call is listed, and elsewhere for want of memory alone. Else it takes all bytes, or
+    /// the most that one call takes.
+    fn write(&mut self, bytes: &[u8]) -> Result<usize, SinkFailed>
+        ensures fits { IfOk result (λ n. n ≤ length bytes.now) }
+        ensures moves { IfOk result (λ n. 0 < length bytes.now → 0 < n) }
+        ensures takes { IfOk result (λ n. Gets (Some self.old.bytes) (take n bytes.now) (Some self.new.bytes)) }
+        ensures cause { HasCause self.old.failing.faults self.new.failing.faults result }
+        ensures kept { OnErr result (Some self.new.bytes ≡ Some self.old.bytes) }
+        ensures counted { CountsCall self.old.failing self.new.failing result }
+        ensures listed { Contains self.old.failing.numbers self.new.failing.calls → IsErr result }
+        ensures moved { IfOk result (λ n. n ≡ min (length bytes.now) self.old.most) }
+        ensures most { self.new.most ≡ self.old.most }
+    {
         if self.failing.fails_next() {
             return Err(SinkFailed);
         }

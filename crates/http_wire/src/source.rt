@@ -1,8 +1,10 @@
 //! Where requests come from.
-ghost use Rattle.std.specs.Prelude.{◌≡◌, ℕ, ◌+◌, ◌-◌, ◌^◌, ◌<◌, ◌≤◌, min, List, [], length, take, drop, Option, Some, None, IfOk, IfSome, OnErr};
-ghost use Rattle.http_wire.specs.Devices.{HasCause, Gives};
+ghost use Rattle.std.specs.Prelude.{◌≡◌, ℕ, ◌+◌, ◌-◌, ◌^◌, ◌<◌, ◌≤◌, ◌↔◌, min, List, [], length, take, Option, Some, None, Contains, IfOk, IfSome, IsErr, OnErr};
+ghost use Rattle.http_wire.specs.Devices.{Gives};
+ghost use Rattle.http_wire.specs.Memory.{CountsCall};
+ghost use Rattle.outside.specs.Faults.{HasCause};
 
-use crate::failing_calls::FailingCalls;
+use outside::FailingCalls;
 use std::alloc::{AllocError, Global};
 use std::io::{BufReader, Read};
 use std::marker::Model;
@@ -51,19 +53,23 @@ impl Model for MemSource {
 
     ghost view = { λ s. record {
       bytes = drop s.position s.bytes.items;
-      failing = s.failing.numbers.items;
-      calls = s.failing.calls;
-      faults = s.failing.faults;
+      most = s.most;
+      failing = s.failing;
     } };
 
     ghost invariant = { λ s. (s.position ≤ length s.bytes.items) × (0 < s.most) };
 }
 
 impl MemSource {
-    /// A source of these bytes, whose calls with the numbers in `failing` fail, counted from 1.
+    /// A source of these bytes, of which one call moves at most `most`, and whose calls with the numbers in `failing`
+    /// fail, counted from 1.
     pub fn new(bytes: Vec<u8>, most: usize, failing: Vec<u64>) -> Self
         requires { 0 < most }
-        ensures { result ≡ record { bytes = bytes.items; failing = failing.items; calls = 0; faults = 0 } }
+        ensures { result ≡ record {
+          bytes = bytes.items;
+          most = most;
+          failing = record { numbers = failing.items; calls = 0; faults = 0 };
+        } }
     {
         MemSource {
             bytes,
@@ -82,13 +88,29 @@ impl MemSource {
 }
 
 impl Source for MemSource {
-    ghost faults = { λ s. s.faults };
+    ghost faults = { λ s. s.failing.faults };
 
     ghost supply = { λ s. length s.bytes };
 
     ghost left = { λ s. Some s.bytes };
 
-    fn read(&mut self, into: &mut [u8]) -> Result<usize, SourceFailed> {
+    /// Fails exactly where the number of the call is listed, and else moves as many bytes as are left, as one call
+    /// moves, and as `into` has room for.
+    fn read(&mut self, into: &mut [u8]) -> Result<usize, SourceFailed>
+        ensures fits { IfOk result (λ n. n ≤ length into.old) }
+        ensures bounded { length self.old.bytes < 2 ^ 64 }
+        ensures falls { IfOk result (λ n. length self.old.bytes ≡ length self.new.bytes + n) }
+        ensures gives { IfOk result (λ n. Gives (Some self.old.bytes) (take n into.new) (Some self.new.bytes)) }
+        ensures ends { IfOk result (λ n. n ≡ 0 → 0 < length into.old
+            → IfSome (Some self.old.bytes) (λ bytes. bytes ≡ [])) }
+        ensures cause { HasCause self.old.failing.faults self.new.failing.faults result }
+        ensures kept { OnErr result (Some self.new.bytes ≡ Some self.old.bytes) }
+        ensures unspent { OnErr result (length self.new.bytes ≡ length self.old.bytes) }
+        ensures counted { CountsCall self.old.failing self.new.failing result }
+        ensures listed { IsErr result ↔ Contains self.old.failing.numbers self.new.failing.calls }
+        ensures moved { IfOk result (λ n. n ≡ min (min (length self.old.bytes) self.old.most) (length into.old)) }
+        ensures most { self.new.most ≡ self.old.most }
+    {
         if self.failing.fails_next() {
             return Err(SourceFailed);
         }

@@ -6,22 +6,24 @@ use Rattle.std.specs.List.{list_all}
 use Rattle.std.specs.Str.Parse.{digits_value}
 use Rattle.std.proofs.lemmas.List.{append_cancel_left}
 use Rattle.std.proofs.lemmas.Str.{is_utf8-from_IsUtf8}
-use Rattle.sched_plain.specs.declared.call.Call.{Call}
-use Rattle.sched_plain.specs.declared.call.Call.TheVariants as calls
-use Rattle.sched_plain.specs.declared.expression.Civil.{Civil}
-use Rattle.sched_plain.specs.declared.expression.Expr.TheVariants as exprs
-use Rattle.sched_plain.specs.declared.moment.Moment.{Moment}
+use Rattle.sched_calls.specs.declared.call.Call.{Call}
+use Rattle.sched_calls.specs.declared.call.Call.TheVariants as calls
+use Rattle.expressions.specs.declared.expression.Civil.{Civil}
+use Rattle.expressions.specs.declared.expression.Expr.TheVariants as exprs
+use Rattle.plain_words.specs.declared.moment.Moment.{Moment}
 use Rattle.sched_plain.specs.declared.schedule.Schedule.{Schedule}
 use Rattle.sched_plain.specs.declared.write.Write.{Write}
-use Rattle.sched_plain.specs.Spelling.{Spells}
-use Rattle.sched_plain.specs.Moments.{moment_of, last_moment}
+use Rattle.expressions.specs.Spelling.{Spells}
+use Rattle.plain_words.specs.Moments.{moment_of, last_moment}
 use Rattle.sched_plain.specs.Validity.{IsContent, IsMoment, IsWrite, IfThere}
 use Rattle.expr_grammar.proofs.Laws.{spelled_once}
 use Rattle.json_api.specs.declared.form.Form.{Form}
 use Rattle.json_api.specs.declared.form.content.Given.{Given}
 use Rattle.http_wire.specs.declared.request.HttpRequest.{HttpRequest}
+use Rattle.http_wire.specs.Digits.{number_within}
+use Rattle.json_api.specs.declared.form.moment_header.TheConstants.{MOMENT_DIGITS}
 use Rattle.json_api.specs.Bodies.{GivesTexts, AreFields, SaysContent, body_data, content_of}
-use Rattle.json_api.specs.MomentHeaders.{moment_in, told_by}
+use Rattle.json_api.specs.MomentHeaders.{moment_in, stated_by}
 use Rattle.json_api.specs.Forms.{AsksCreation, AsksCall, Asks, AsksOnce, IsServedForm, IsServedCall, creation_of, path_of}
 
 same_given : (a b : Given) → a.text ≡ b.text → a.target ≡ b.target → a.role ≡ b.role → a ≡ b
@@ -64,10 +66,10 @@ call_once path body (calls.Read read) b one two = absurd one
 
 pub asks_once : AsksOnce
 asks_once request a b one two =
-    let both : Some a.told ≡ Some b.told = sym one.told ∙ two.told in
-    let told : a.told ≡ b.told = cc in
+    let both : Some a.stated ≡ Some b.stated = sym one.stated ∙ two.stated in
+    let stated : a.stated ≡ b.stated = cc in
     let call : a.call ≡ b.call = call_once (path_of request.target) request.body a.call b.call one.call two.call in
-    λ i. record { told = told i; call = call i }
+    λ i. record { stated = stated i; call = call i }
 
 content_valid : (given : Given) (civil : Civil) → AreFields given civil → IsContent (content_of given civil)
 content_valid given civil fields = record {
@@ -102,32 +104,42 @@ call_served path body (calls.Write write) asks =
     }
 call_served path body (calls.Read read) asks = absurd asks
 
--- what is told under a condition is a moment, where the condition says so
-moment_under : (holds : Bool) (seconds : ℕ) (moment : Moment) → (holds ≡ true → seconds ≤ last_moment) → cond holds (Some (moment_of seconds)) None ≡ Some moment → IsMoment moment.0
-moment_under true seconds moment within e =
-    let same : moment_of seconds ≡ moment = cc in subst (λ (m : Moment). IsMoment m.0) same (within refl)
-moment_under false seconds moment within e = let none : ⊥ = cc in absurd none
+-- what is there under a condition is at most a limit, where the condition says so
+within_limit : (holds : Bool) (number n limit : ℕ) → (holds ≡ true → number ≤ limit) → cond holds (Some number) None ≡ Some n → n ≤ limit
+within_limit true number n limit within e = let same : number ≡ n = cc in subst (λ (m : ℕ). m ≤ limit) same (within refl)
+within_limit false number n limit within e = let none : ⊥ = cc in absurd none
+
+-- a number that was read is at most its limit
+number_below : (most limit : ℕ) (digits : List ℕ) (n : ℕ) → number_within most limit digits ≡ Some n → n ≤ limit
+number_below most limit digits n e =
+    let digits_fit : Bool = nat_le 1 (length digits) && nat_le (length digits) most && list_all is_ascii_digit digits in
+    let value : ℕ = digits_value 10 digits in
+    within_limit (digits_fit && nat_le value limit) value n limit
+    (λ holds. leb-true value limit (and_parts digits_fit (nat_le value limit) holds).1) e
+
+-- so the seconds that were read are a moment
+moment_from : (o : Option ℕ) (moment : Moment) → ((n : ℕ) → o ≡ Some n → n ≤ last_moment) → option_map moment_of o ≡ Some moment → IsMoment moment.0
+moment_from (Some n) moment within e =
+    let same : moment_of n ≡ moment = cc in subst (λ (m : Moment). IsMoment m.0) same (within n refl)
+moment_from None moment within e = let none : ⊥ = cc in absurd none
 
 moment_is : (digits : List ℕ) (moment : Moment) → moment_in digits ≡ Some moment → IsMoment moment.0
 moment_is digits moment e =
-    let digits_fit : Bool = nat_le 1 (length digits) && nat_le (length digits) 10 && list_all is_ascii_digit digits in
-    let seconds : ℕ = digits_value 10 digits in
-    moment_under (digits_fit && nat_le seconds last_moment) seconds moment
-    (λ holds. leb-true seconds last_moment (and_parts digits_fit (nat_le seconds last_moment) holds).1) e
+    moment_from (number_within MOMENT_DIGITS last_moment digits) moment (number_below MOMENT_DIGITS last_moment digits) e
 
-told_of : (o : Option Moment) (told : Option Moment) → ((m : Moment) → o ≡ Some m → IsMoment m.0) → option_map (λ (m : Moment). Some m) o ≡ Some told → IfThere (λ (m : Moment). IsMoment m.0) told
-told_of (Some m) told is e =
-    let same : Some m ≡ told = cc in subst (IfThere (λ (n : Moment). IsMoment n.0)) same (is m refl)
-told_of None told is e = let none : ⊥ = cc in absurd none
+stated_of : (o : Option Moment) (stated : Option Moment) → ((m : Moment) → o ≡ Some m → IsMoment m.0) → option_map (λ (m : Moment). Some m) o ≡ Some stated → IfThere (λ (m : Moment). IsMoment m.0) stated
+stated_of (Some m) stated is e =
+    let same : Some m ≡ stated = cc in subst (IfThere (λ (n : Moment). IsMoment n.0)) same (is m refl)
+stated_of None stated is e = let none : ⊥ = cc in absurd none
 
-told_is_moment : (values : List (List ℕ)) (told : Option Moment) → told_by values ≡ Some told → IfThere (λ (m : Moment). IsMoment m.0) told
-told_is_moment [] told e =
-    let same : None ≡ told = cc in subst (IfThere (λ (n : Moment). IsMoment n.0)) same tt
-told_is_moment (digits ∷ []) told e = told_of (moment_in digits) told (moment_is digits) e
-told_is_moment (first ∷ second ∷ more) told e = let none : ⊥ = cc in absurd none
+stated_is_moment : (values : List (List ℕ)) (stated : Option Moment) → stated_by values ≡ Some stated → IfThere (λ (m : Moment). IsMoment m.0) stated
+stated_is_moment [] stated e =
+    let same : None ≡ stated = cc in subst (IfThere (λ (n : Moment). IsMoment n.0)) same tt
+stated_is_moment (digits ∷ []) stated e = stated_of (moment_in digits) stated (moment_is digits) e
+stated_is_moment (first ∷ second ∷ more) stated e = let none : ⊥ = cc in absurd none
 
 pub form_served : (request : HttpRequest) (form : Form) → Asks request form → IsServedForm form
 form_served request form asks = record {
-  told = told_is_moment request.moments form.told asks.told;
+  stated = stated_is_moment request.moments form.stated asks.stated;
   call = call_served (path_of request.target) request.body form.call asks.call;
 }

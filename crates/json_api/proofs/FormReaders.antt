@@ -3,14 +3,14 @@ use Rattle.std.proofs.Common.{◌≡◌, ◌≤◌, ℕ, ◌==◌, Bool, true, f
 use Rattle.std.proofs.lemmas.List.{append_cancel_left, take_all}
 use Rattle.std.specs.List.{position, position_or_len}
 use Rattle.serde_json.specs.Data.{Data}
-use Rattle.sched_plain.specs.declared.call.Call.{Call}
-use Rattle.sched_plain.specs.declared.call.Call.TheVariants as calls
-use Rattle.sched_plain.specs.declared.expression.Civil.{Civil}
-use Rattle.sched_plain.specs.declared.expression.Expr.{Expr}
-use Rattle.sched_plain.specs.declared.expression.Expr.TheVariants as exprs
+use Rattle.sched_calls.specs.declared.call.Call.{Call}
+use Rattle.sched_calls.specs.declared.call.Call.TheVariants as calls
+use Rattle.expressions.specs.declared.expression.Civil.{Civil}
+use Rattle.expressions.specs.declared.expression.Expr.{Expr}
+use Rattle.expressions.specs.declared.expression.Expr.TheVariants as exprs
 use Rattle.sched_plain.specs.declared.schedule.Schedule.{Schedule}
 use Rattle.sched_plain.specs.declared.write.Write.{Write}
-use Rattle.sched_plain.specs.Spelling.{Spells}
+use Rattle.expressions.specs.Spelling.{Spells}
 use Rattle.expr_grammar.proofs.Laws.{spelled_once}
 use Rattle.json_api.specs.declared.form.Form.{Form}
 use Rattle.json_api.specs.declared.form.content.Given.{Given}

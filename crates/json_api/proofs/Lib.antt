@@ -1,2 +1,2 @@
 pub mod FormLemmas
-pub mod FormReaders
+mod FormReaders

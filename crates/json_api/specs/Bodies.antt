@@ -4,12 +4,14 @@ use Rattle.std.specs.Prelude.{◌≡◌, ℕ, true, false, List, [], Some, None,
 use Rattle.std.specs.Str.{IsUtf8}
 use Rattle.serde_json.specs.Data.{Data, number, unsigned, string, object, no_members, member}
 use Rattle.serde_json.specs.Read.{read}
-use Rattle.sched_plain.specs.declared.expression.Civil.{Civil}
-use Rattle.sched_plain.specs.declared.expression.Expr.TheVariants as exprs
+use Rattle.plain_words.specs.declared.limits.TheConstants.{LONGEST_AGE}
+use Rattle.expressions.specs.declared.expression.Civil.{Civil}
+use Rattle.expressions.specs.declared.expression.Expr.TheVariants as exprs
 use Rattle.sched_plain.specs.declared.schedule.Schedule.{Schedule}
-use Rattle.sched_plain.specs.Spelling.{Spells}
+use Rattle.expressions.specs.Spelling.{Spells}
 use Rattle.sched_plain.specs.Validity.{IsText}
 use Rattle.target_link.specs.Address.{target_spot}
+use Rattle.plain_words.specs.declared.limits.TheConstants.{LONGEST_EXPRESSION, LONGEST_ARN}
 use Rattle.json_api.specs.declared.form.content.Given.{Given}
 
 -- an object with this member alone
@@ -47,9 +49,9 @@ pub record GivesTexts (body : List ℕ) (given : Given) : Type 0 where
 
 -- the texts are as long as they may be
 pub record HaveLengths (given : Given) : Type 0 where
-  pub text : IsText 1 256 given.text
-  pub target : IsText 1 1600 given.target
-  pub role : IsText 1 1600 given.role
+  pub text : IsText 1 LONGEST_EXPRESSION given.text
+  pub target : IsText 1 LONGEST_ARN given.target
+  pub role : IsText 1 LONGEST_ARN given.role
 
 -- they are, the expression is an `at`, and the target's arn is the address of a target
 pub record AreFields (given : Given) (civil : Civil) : Type 0 where
@@ -69,7 +71,7 @@ content_of given civil = record {
   enabled = true;
   delete_after = false;
   window = 0;
-  policy = record { retries = 0; age = 86400 };
+  policy = record { retries = 0; age = LONGEST_AGE };
   target = given.target;
   role = given.role;
   queue = None;

@@ -2,10 +2,10 @@
 -- the sweep of all shards.
 use Rattle.std.specs.Prelude.{◌≡◌, ℕ, ◌==◌, List, ◌++◌, Option, Some, None, IsSome, codes}
 use Rattle.std.specs.List.{before_first}
-use Rattle.sched_plain.specs.declared.call.Call.{Call}
-use Rattle.sched_plain.specs.declared.call.Call.TheVariants as calls
-use Rattle.sched_plain.specs.declared.expression.Civil.{Civil}
-use Rattle.sched_plain.specs.declared.moment.Moment.{Moment}
+use Rattle.sched_calls.specs.declared.call.Call.{Call}
+use Rattle.sched_calls.specs.declared.call.Call.TheVariants as calls
+use Rattle.expressions.specs.declared.expression.Civil.{Civil}
+use Rattle.plain_words.specs.declared.moment.Moment.{Moment}
 use Rattle.sched_plain.specs.declared.schedule.Schedule.{Schedule}
 use Rattle.sched_plain.specs.declared.write.Write.{Write}
 use Rattle.sched_plain.specs.declared.write.Write.TheVariants as writes
@@ -17,15 +17,16 @@ use Rattle.json_api.specs.declared.form.content.Given.{Given}
 use Rattle.http_wire.specs.declared.request.HttpRequest.{HttpRequest}
 use Rattle.json_api.specs.Reading.{IsAnswer}
 use Rattle.json_api.specs.Bodies.{SaysContent, content_of}
-use Rattle.json_api.specs.MomentHeaders.{told_by}
+use Rattle.json_api.specs.MomentHeaders.{stated_by}
+use Rattle.plain_words.specs.Bytes.{question_mark}
 
 -- a word is the name that these bytes are
 abbrev pub IsNameOf : List ℕ → List ℕ → Type 0
 IsNameOf bytes name = IsName bytes × (name ≡ bytes)
 
--- the path of a request target: what stands before the first question mark
+-- the path of a request target: what stands before its query
 abbrev pub path_of : List ℕ → List ℕ
-path_of target = before_first (λ byte. byte == 63) target
+path_of target = before_first (λ byte. byte == question_mark) target
 
 -- the creation of a schedule of this name in the group `default`, without a client token
 abbrev pub creation_of : List ℕ → Schedule → Write
@@ -48,7 +49,7 @@ AsksCall path body (calls.Read read) = ⊥
 -- the request asks for a call, and tells this moment
 pub record Asks (request : HttpRequest) (form : Form) : Type 0 where
   pub method : request.method ≡ codes "POST"
-  pub told : told_by request.moments ≡ Some form.told
+  pub stated : stated_by request.moments ≡ Some form.stated
   pub call : AsksCall (path_of request.target) request.body form.call
 
 -- the request has neither form
@@ -80,5 +81,5 @@ IsServedCall (calls.Read read) = ⊥
 
 -- so is the call of the form, and what it tells is a moment
 pub record IsServedForm (form : Form) : Type 0 where
-  pub told : IfThere (λ (moment : Moment). IsMoment moment.0) form.told
+  pub stated : IfThere (λ (moment : Moment). IsMoment moment.0) form.stated
   pub call : IsServedCall form.call

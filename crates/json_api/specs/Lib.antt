@@ -2,3 +2,4 @@ pub mod Reading
 pub mod MomentHeaders
 pub mod Bodies
 pub mod Forms
+pub mod Replies

@@ -3,6 +3,7 @@
 ghost use Rattle.std.specs.Prelude.{◌≡◌, ◌↔◌, ◌==◌, ◌++◌, ℕ, List, codes, position, IsTrue, IfOk, IfSome, IfNone};
 ghost use Rattle.json_api.specs.Reading.{IsAnswer};
 ghost use Rattle.json_api.specs.Forms.{IsServedForm, AsksCall, AsksOnce, Reads, path_of};
+ghost use Rattle.plain_words.specs.Bytes.{question_mark};
 
 mod content;
 mod creation;
@@ -12,15 +13,16 @@ mod texts;
 
 use creation::read_creation;
 use http_wire::HttpRequest;
-use moment_header::told_by;
-use sched_plain::{Call, Moment};
+use moment_header::stated_by;
+use sched_calls::Call;
+use sched_plain::Moment;
 use std::alloc::{AllocError, Global};
 
 /// What a request of the two forms that are served asks for.
 #[derive(Debug, Drop)]
 pub struct Form {
     /// The moment that its X-Moment header tells.
-    pub told: Option<Moment>,
+    pub stated: Option<Moment>,
     /// What is to be done.
     pub call: Call,
 }
@@ -42,12 +44,12 @@ fn form_of(alloc: Global, request: &HttpRequest) -> Result<Option<Form>, AllocEr
     if !is_post(request.method.as_bytes()) {
         return Ok(None);
     }
-    let Some(told) = told_by(request.moments.as_slice()) else {
+    let Some(stated) = stated_by(request.moments.as_slice()) else {
         return Ok(None);
     };
     let path = path_of(request.target.as_bytes());
     match read_call(alloc, path, request.body.as_bytes())? {
-        Some(call) => Ok(Some(Form { told, call })),
+        Some(call) => Ok(Some(Form { stated, call })),
         None => Ok(None),
     }
 }
@@ -61,7 +63,7 @@ fn is_post(method: &[u8]) -> bool
 
 /// Where the query of a request target begins, if it has one.
 fn query_start(target: &[u8]) -> Option<usize>
-    ensures { result ≡ position (λ byte. byte == 63) target.now }
+    ensures { result ≡ position (λ byte. byte == question_mark) target.now }
 {
     target.iter().position(|byte| *byte == b'?')
 }

@@ -1,9 +1,13 @@
 -- The histories written out are what the definitions say of them: all of it computes.
-use Rattle.std.specs.Prelude.{refl}
-use Rattle.std.proofs.Common.{inl, inr}
-use Rattle.sched_plain.specs.Occurrences.{occ_below}
-use Rattle.sched_plain.specs.ExampleRows.{SweepsAreLegal, BrokenSteps, Standings, LettersAndMarks, Occurring, Reported, Attempting, ServesRows}
-use Rattle.sched_plain.specs.Serves.{caught_up, settled, enters, begins, next_shard, swept}
+use Rattle.std.proofs.Common.{◌≡◌, ℕ, zero, suc, ◌+◌, nat_lt, ◌==◌, Bool, false, ◌&&◌, ◌||◌, refl, inl, inr, arith}
+use Rattle.std.proofs.lemmas.Bool.{cases_eq, ne_eqb, le-ltb}
+use Rattle.plain_words.proofs.Booleans.{and_false}
+use Rattle.plain_words.specs.Lists.{any_passing}
+use Rattle.plain_words.specs.Moments.{last_moment}
+use Rattle.sched_plain.specs.Items.{items}
+use Rattle.sched_plain.specs.Examples.{first_day, finished}
+use Rattle.sched_plain.specs.Occurrences.{occ_below, has_later, occurs_in}
+use Rattle.sched_plain.specs.ExampleRows.{SweepsAreLegal, BrokenSteps, Finishing, Standings, LettersAndMarks, Occurring, Reported, Attempting}
 
 pub sweeps_are_legal : SweepsAreLegal
 unfolding occ_below
@@ -17,6 +21,8 @@ sweeps_are_legal =
       aged_out = record { long = refl; legal = refl };
       created_again = record { long = refl; legal = refl };
       updated = record { long = refl; legal = refl };
+      deleted_at_work = record { long = refl; legal = refl };
+      zoned = refl;
     }
 
 pub broken_steps : BrokenSteps
@@ -32,6 +38,9 @@ broken_steps =
       token_kept_again = refl;
       update_too_soon = refl;
       utc_is_known = refl;
+      zone_known = refl;
+      no_more_groups = refl;
+      group_again = refl;
       bad_zone = refl;
       too_early = refl;
       entered_twice = refl;
@@ -58,6 +67,32 @@ broken_steps =
       stale_and_number = refl;
     }
 
+-- a test that no number passes finds none
+none_pass : (test : ℕ → Bool) (n : ℕ) → ((i : ℕ) → test i ≡ false) → any_passing test n ≡ false
+none_pass test zero fails = refl
+none_pass test (suc n) fails = rw (none_pass test n fails, fails n) refl
+
+-- what has to be 1000 is not later than 1000
+not_later : (i : ℕ) (rest : Bool) → (nat_lt 1000 i && ((rest && (i == 1000)) || false)) ≡ false
+not_later i rest =
+    elim (cases_eq i 1000) [
+      | inl same ↦ let low : nat_lt 1000 i ≡ false = le-ltb 1000 i (omega arith) in rw low refl
+      | inr apart ↦
+          let other : (i == 1000) ≡ false = ne_eqb i 1000 apart in
+          let none : (rest && false) ≡ false = and_false rest in
+          let never : (nat_lt 1000 i && false) ≡ false = and_false (nat_lt 1000 i) in
+          rw (other, none) never
+    ]
+
+-- the schedule written out has nothing to come behind 1000
+nothing_later : has_later first_day (items finished 1) 1000 ≡ false
+unfolding has_later
+nothing_later = none_pass (λ i. nat_lt 1000 i && occurs_in first_day (items finished 1) i) (last_moment + 1) (λ i. not_later i _)
+
+pub finishing : Finishing
+unfolding occ_below
+finishing = record { may = rw nothing_later refl; next = rw nothing_later refl; once = refl; settled = refl }
+
 pub standings : Standings
 standings =
     record {
@@ -71,6 +106,7 @@ standings =
       sixth_late = refl;
       too_old = refl;
       first_age = refl;
+      cancelled = refl;
       past_age = refl;
     }
 
@@ -86,6 +122,7 @@ letters_and_marks =
       mark_swept = refl;
       mark_of_none = refl;
       mark_updated = refl;
+      mark_removed = refl;
     }
 
 pub occurring : Occurring
@@ -97,18 +134,3 @@ reported = record { after_sweep = refl; in_sweep = refl; swept = refl; not_swept
 
 pub attempting : Attempting
 attempting = record { ended = refl; lost = refl; taken = refl; renewed = refl }
-
-pub serves_rows : ServesRows
-unfolding occ_below
-serves_rows =
-    record {
-      creation_served = (inr (record { new = refl; allowed = refl; zone = refl; entered = _; caught_up = caught_up; added = refl; answered = refl }), refl);
-      second_creation_refused = (inl (refl, inr (inr (inl (record { new = refl; fault = _; found = refl; unchanged = refl; answered = refl })))), refl);
-      sweep_served = (
-        next_shard (settled refl)
-            (next_shard (enters refl (begins refl (settled refl)))
-            (next_shard (settled refl) (next_shard (settled refl) (next_shard (settled refl)
-            (next_shard (settled refl) (next_shard (settled refl) (next_shard (settled refl) swept))))))),
-        refl,
-      );
-    }

@@ -1,4 +1,3 @@
-pub mod WordLemmas
-pub mod IdLemmas
-pub mod Histories
-pub mod SpellingRows
+pub mod HistoryLemmas
+pub mod LedgerLemmas
+mod Histories

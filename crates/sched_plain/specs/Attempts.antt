@@ -7,9 +7,9 @@ use Rattle.sched_plain.specs.declared.entry.Fate.{Fate}
 use Rattle.sched_plain.specs.declared.entry.Fate.TheVariants as fates
 use Rattle.sched_plain.specs.declared.entry.Last.{Last}
 use Rattle.sched_plain.specs.declared.entry.Last.TheVariants as lasts
-use Rattle.sched_plain.specs.declared.verdict.Verdict.{Verdict}
-use Rattle.sched_plain.specs.Moments.{moment_of}
-use Rattle.sched_plain.specs.Lists.{some_pass}
+use Rattle.plain_words.specs.declared.verdict.Verdict.{Verdict}
+use Rattle.plain_words.specs.Moments.{moment_of}
+use Rattle.plain_words.specs.Lists.{some_pass}
 use Rattle.sched_plain.specs.Ledger.{LedgerCall, Begun, Finished, Lost}
 use Rattle.sched_plain.specs.Entries.{is_lost_in}
 

@@ -1,24 +1,21 @@
 -- What the definitions say of the histories written out: legal, or the first rule that a step breaks; standings,
 -- letters, marks, counts.
-use Rattle.std.specs.Prelude.{◌≡◌, ℕ, Option, Some, None, [], ◌∷◌, Ok, Err, codes}
+use Rattle.std.specs.Prelude.{◌≡◌, ℕ, Option, Some, None, [], ◌∷◌, codes}
 use Rattle.std.specs.Option.{option_map}
-use Rattle.sched_plain.specs.declared.call.Call.TheVariants as calls
 use Rattle.sched_plain.specs.declared.entry.Fate.TheVariants as fates
-use Rattle.sched_plain.specs.declared.reply.Reply.TheVariants as replies
-use Rattle.sched_plain.specs.declared.write.Write.TheVariants as writes
 use Rattle.sched_plain.specs.declared.standing.Standing.{Standing}
 use Rattle.sched_plain.specs.declared.standing.Standing.TheVariants as standings
 use Rattle.sched_plain.specs.declared.step.Step.{Step}
 use Rattle.sched_plain.specs.declared.step.Step.TheVariants as steps
-use Rattle.sched_plain.specs.declared.verdict.Outcome.TheVariants as outcomes
-use Rattle.sched_plain.specs.declared.verdict.Reason.TheVariants as reasons
-use Rattle.sched_plain.specs.declared.verdict.Verdict.TheVariants as verdicts
+use Rattle.sched_plain.specs.declared.outcome.Outcome.TheVariants as outcomes
+use Rattle.sched_plain.specs.declared.outcome.Reason.TheVariants as reasons
+use Rattle.plain_words.specs.declared.verdict.Verdict.TheVariants as verdicts
 use Rattle.sched_plain.specs.declared.why.RowFault.TheVariants as faults
 use Rattle.sched_plain.specs.declared.why.Why.{Why}
 use Rattle.sched_plain.specs.declared.why.Why.TheVariants as whys
 use Rattle.sched_plain.specs.declared.work.Work.TheVariants as works
 use Rattle.sched_plain.specs.History.{History, beginning, ◌upon◌, count}
-use Rattle.sched_plain.specs.Moments.{moment_of}
+use Rattle.plain_words.specs.Moments.{moment_of}
 use Rattle.sched_plain.specs.Entries.{filed}
 use Rattle.sched_plain.specs.Ledger.{ledger_of}
 use Rattle.sched_plain.specs.Standing.{standing_of}
@@ -27,10 +24,10 @@ use Rattle.sched_plain.specs.Marks.{mark, unentered}
 use Rattle.sched_plain.specs.Occurrences.{occ}
 use Rattle.sched_plain.specs.Report.{counts, last_swept}
 use Rattle.sched_plain.specs.Attempts.{attempts}
-use Rattle.sched_plain.specs.Serves.{Serves}
-use Rattle.sched_plain.specs.Groups.{default_name}
+use Rattle.sched_plain.specs.Seen.{seen}
+use Rattle.sched_plain.specs.Work.{work}
 use Rattle.sched_plain.specs.Legal.{why, first_illegal}
-use Rattle.sched_plain.specs.Examples.{first_day, first_sweep, once, created, creation, creation_in, creation_with, update, deletion, updated, late, created_again, taking, entered, at_work, windowed, windowed_sweep, windowed_again, retried_twice, retried_out, aged_five, aged_out, dead_queue}
+use Rattle.sched_plain.specs.Examples.{first_day, first_sweep, once, created, creation, creation_in, creation_with, update, deletion, updated, late, created_again, taking, entered, at_work, windowed, windowed_sweep, windowed_again, retried_twice, retried_out, aged_five, aged_out, dead_queue, finished, removed, deleted_at_work, any_zone, created_at_the_office, group_created, all_groups}
 
 -- so many steps, each of which may follow those before it
 pub record LegalSteps (h : History) (n : ℕ) : Type 0 where
@@ -47,6 +44,8 @@ pub record SweepsAreLegal : Type 0 where
   pub aged_out : LegalSteps aged_out 160
   pub created_again : LegalSteps created_again 4
   pub updated : LegalSteps updated 4
+  pub deleted_at_work : LegalSteps deleted_at_work 8
+  pub zoned : first_illegal any_zone created_at_the_office ≡ None
 
 -- the first rule that a step breaks behind a history
 abbrev pub Breaks : History → Step → Why → Type 0
@@ -77,6 +76,9 @@ pub record BrokenSteps : Type 0 where
   pub token_kept_again : Breaks (deletion 950 upon creation_with (codes "t") 900 once upon beginning) (creation_with (codes "t") 950 once) (whys.TokenKept 1)
   pub update_too_soon : Breaks (created once) (update 1000 once) (whys.Unentered 1 1000)
   pub utc_is_known : Breaks (created once) (steps.Zone (moment_of 950) (codes "UTC") []) whys.ZoneKnown
+  pub zone_known : why any_zone created_at_the_office (steps.Zone (moment_of 950) (codes "Office") (codes "y")) ≡ Some whys.ZoneKnown
+  pub no_more_groups : Breaks all_groups (group_created (codes "g")) (whys.Row (faults.TooMany 500))
+  pub group_again : Breaks all_groups (group_created (codes "007")) (whys.Row faults.GroupExists)
   pub bad_zone : Breaks (created once) (steps.Zone (moment_of 950) (codes "Office") (codes "x")) whys.BadZone
   pub too_early : Breaks (at_work []) (entering 1000 999 999) (whys.NotNext 999)
   pub entered_twice : Breaks (at_work (entered 1000 ∷ [])) (entered 1000) (whys.NotNext 1000)
@@ -102,6 +104,13 @@ pub record BrokenSteps : Type 0 where
   pub back_and_unentered : Breaks (at_work []) (begin 999 1 1) (whys.MomentBack (moment_of 1000))
   pub stale_and_number : Breaks (at_work (entered 1000 ∷ [])) (begin 1000 2 7) (whys.Stale 1)
 
+-- what is finished may be removed, once, and is the next work of its shard
+pub record Finishing : Type 0 where
+  pub may : why first_day finished (steps.Complete (moment_of 1000) 1) ≡ None
+  pub next : work (seen first_day finished) 1 1000 ≡ works.Complete 1
+  pub once : Breaks removed (steps.Complete (moment_of 1000) 1) whys.NotComplete
+  pub settled : work (seen first_day removed) 1 1000 ≡ works.Settled
+
 -- where the one entry stands at a moment
 abbrev pub stands_at : History → ℕ → Option Standing
 stands_at h now = option_map (λ f. standing_of f now) (filed (ledger_of h) 1 1000)
@@ -118,6 +127,7 @@ pub record Standings : Type 0 where
   pub sixth_late : stands_at aged_five 1061 ≡ Some (standings.Exhausted reasons.Age)
   pub too_old : stands_at aged_out 1031 ≡ Some (standings.Decided outcomes.Age)
   pub first_age : stands_at (at_work (entered 1000 ∷ [])) 87400 ≡ Some standings.Due
+  pub cancelled : stands_at deleted_at_work 1000 ≡ Some (standings.Decided outcomes.Cancelled)
   pub past_age : stands_at (at_work (entered 1000 ∷ [])) 87401 ≡ Some (standings.Exhausted reasons.Age)
 
 -- letters and marks
@@ -131,6 +141,7 @@ pub record LettersAndMarks : Type 0 where
   pub mark_swept : mark windowed_again 1 ≡ Some 1001
   pub mark_of_none : mark first_sweep 2 ≡ None
   pub mark_updated : mark updated 1 ≡ Some 1000
+  pub mark_removed : mark removed 1 ≡ Some 1000
 
 -- occurrences: what is entered, what is not, and which of it is past its age
 pub record Occurring : Type 0 where
@@ -191,14 +202,3 @@ pub record Attempting : Type 0 where
       record { number = 1; begun = moment_of 1000; epoch = 1; fate = fates.Lost } ∷ []
   pub renewed : attempts (ledger_of (taking 1000 1 1 upon at_work (entered 1000 ∷ begin 1000 1 1 ∷ []))) 1 1000 ≡
       record { number = 1; begun = moment_of 1000; epoch = 1; fate = fates.Live } ∷ []
-
--- requests served over these histories
-pub record ServesRows : Type 0 where
-  pub creation_served : Serves first_day (λ name. None) 900 (steps.Boot (moment_of 0) upon beginning) [] []
-      (Ok (calls.Write (writes.CreateSchedule default_name (codes "once") None once))) (created once) [] []
-      (Ok (replies.Created (codes "arn:aws:scheduler:local:000000000000:schedule/default/once")))
-  pub second_creation_refused : Serves first_day (λ name. None) 950 (created once) [] []
-      (Ok (calls.Write (writes.CreateSchedule default_name (codes "once") None once))) (created once) [] []
-      (Err (record { rule = 10; status = 409; subject = codes "default/once" }))
-  pub sweep_served : Serves first_day (λ name. None) 1000 (created once) [] ((verdicts.Done, 200) ∷ []) (Ok calls.Sweep) first_sweep [] []
-      (Ok (replies.Settled (moment_of 1000)))

@@ -1,21 +1,22 @@
 -- Histories written out, on which the definitions are tried.
-use Rattle.std.specs.Prelude.{ℕ, ◌+◌, ◌*◌, ◌-◌, ◌%◌, ◌==◌, nat_le, Bool, true, false, ◌&&◌, Option, Some, None, List, [], ◌∷◌, ◌++◌, codes}
+use Rattle.std.specs.Prelude.{ℕ, ◌+◌, ◌*◌, ◌-◌, ◌/◌, ◌%◌, ◌==◌, nat_le, Bool, true, false, ◌&&◌, Option, Some, None, List, [], ◌∷◌, ◌++◌, map, codes}
 use Rattle.std.specs.List.{flat_map}
-use Rattle.sched_plain.specs.declared.expression.Expr.{Expr}
-use Rattle.sched_plain.specs.declared.expression.Expr.TheVariants as exprs
-use Rattle.sched_plain.specs.declared.expression.Unit.{Unit as RateUnit}
-use Rattle.sched_plain.specs.declared.expression.Unit.TheVariants as units
+use Rattle.expressions.specs.declared.expression.Expr.{Expr}
+use Rattle.expressions.specs.declared.expression.Expr.TheVariants as exprs
+use Rattle.expressions.specs.declared.expression.Unit.{Unit as RateUnit}
+use Rattle.expressions.specs.declared.expression.Unit.TheVariants as units
 use Rattle.sched_plain.specs.declared.schedule.Schedule.{Schedule}
 use Rattle.sched_plain.specs.declared.step.Step.{Step}
 use Rattle.sched_plain.specs.declared.step.Step.TheVariants as steps
-use Rattle.sched_plain.specs.declared.verdict.Reason.TheVariants as reasons
-use Rattle.sched_plain.specs.declared.verdict.Verdict.{Verdict}
-use Rattle.sched_plain.specs.declared.verdict.Verdict.TheVariants as verdicts
+use Rattle.sched_plain.specs.declared.outcome.Reason.TheVariants as reasons
+use Rattle.plain_words.specs.declared.verdict.Verdict.{Verdict}
+use Rattle.plain_words.specs.declared.verdict.Verdict.TheVariants as verdicts
 use Rattle.sched_plain.specs.declared.write.Write.TheVariants as writes
 use Rattle.sched_plain.specs.History.{History, beginning, ◌upon◌, grown}
-use Rattle.sched_plain.specs.Moments.{moment_of}
-use Rattle.sched_plain.specs.Expressions.{second_of_day}
-use Rattle.sched_plain.specs.Calendar.{Calendar}
+use Rattle.plain_words.specs.Lists.{numbers}
+use Rattle.plain_words.specs.Moments.{moment_of}
+use Rattle.expressions.specs.CivilSeconds.{second_of_day}
+use Rattle.expressions.specs.Calendar.{Calendar}
 use Rattle.sched_plain.specs.Groups.{default_name}
 
 -- the seconds of a unit
@@ -179,3 +180,44 @@ updated =
 -- created at 0 and first looked at four hours later
 abbrev pub late : History
 late = taking 14400 1 1 upon creation 0 hourly upon steps.Boot (moment_of 0) upon beginning
+
+-- the same schedule, removed once it has nothing left to do
+abbrev pub passing_by : Schedule
+passing_by = record once { delete_after = true }
+
+-- created at 900, and its one occurrence sent by the sweep at 1000: shard 1 has nothing left to do but to remove it
+abbrev pub finished : History
+finished =
+    grown (created passing_by)
+    (shard_swept 1000 0 1 [] ++ taking 1000 1 1 ∷ entered 1000 ∷ attempted 1000 1000 1 1 verdicts.Done 200)
+
+abbrev pub removed : History
+removed = steps.Complete (moment_of 1000) 1 upon finished
+
+-- deleted while its one entry waits for its first attempt
+abbrev pub deleted_at_work : History
+deleted_at_work = deletion 1000 upon at_work (entered 1000 ∷ [])
+
+-- the calendar of 1 January 1970 in which any bytes are a zone
+abbrev pub any_zone : Calendar
+any_zone = record { readable = λ bytes. true; at = first_day_at }
+
+-- the same schedule in the zone `Office`, whose bytes are told by a Zone step before its creation
+abbrev pub at_the_office : Schedule
+at_the_office = record once { zone = codes "Office" }
+
+abbrev pub created_at_the_office : History
+created_at_the_office =
+    creation 900 at_the_office upon steps.Zone (moment_of 900) (codes "Office") (codes "x") upon steps.Boot (moment_of 0) upon beginning
+
+-- a group of this name created at 0
+abbrev pub group_created : List ℕ → Step
+group_created name = steps.Change (moment_of 0) (writes.CreateGroup name None)
+
+-- the name of the nth of many groups: its three digits
+abbrev pub nth_name : ℕ → List ℕ
+nth_name n = (48 + n / 100) ∷ (48 + n / 10 % 10) ∷ (48 + n % 10) ∷ []
+
+-- as many groups as there may be, `default` among them
+abbrev pub all_groups : History
+all_groups = grown beginning (map (λ n. group_created (nth_name n)) (numbers 1 499))

@@ -8,10 +8,11 @@ use Rattle.sched_plain.specs.declared.row.Row.{Row}
 use Rattle.sched_plain.specs.declared.row.GroupRow.{GroupRow}
 use Rattle.sched_plain.specs.declared.why.RowFault.{RowFault}
 use Rattle.sched_plain.specs.declared.why.RowFault.TheVariants as faults
-use Rattle.sched_plain.specs.Moments.{moment_of}
-use Rattle.sched_plain.specs.Lists.{first_some, when}
+use Rattle.plain_words.specs.Moments.{moment_of}
+use Rattle.plain_words.specs.Lists.{first_some, when}
 use Rattle.sched_plain.specs.Changes.{Accepted, Written, Removed}
 use Rattle.sched_plain.specs.Rows.{same_text, living}
+use Rattle.plain_words.specs.declared.limits.TheConstants.{MOST_SCHEDULES, MOST_INCARNATIONS, MOST_GROUPS}
 
 -- the name of the group that is there from the start
 abbrev pub default_name : List ℕ
@@ -47,14 +48,14 @@ row_fault rows groups (writes.CreateSchedule group name token content) =
     first_some (
     when (not (has_group groups group)) faults.NoGroup
     ∷ when (is_some (living rows group name)) faults.Exists
-    ∷ when (nat_le 10000 (living_count rows)) (faults.TooMany (living_count rows))
-    ∷ when (nat_le 4294967295 (length rows)) (faults.TooMany (length rows))
+    ∷ when (nat_le MOST_SCHEDULES (living_count rows)) (faults.TooMany (living_count rows))
+    ∷ when (nat_le MOST_INCARNATIONS (length rows)) (faults.TooMany (length rows))
     ∷ [])
 row_fault rows groups (writes.UpdateSchedule group name token content) =
     first_some (when (not (has_group groups group)) faults.NoGroup ∷ when (is_none (living rows group name)) faults.Missing ∷ [])
 row_fault rows groups (writes.DeleteSchedule group name token) =
     first_some (when (not (has_group groups group)) faults.NoGroup ∷ when (is_none (living rows group name)) faults.Missing ∷ [])
 row_fault rows groups (writes.CreateGroup name token) =
-    first_some (when (has_group groups name) faults.GroupExists ∷ when (nat_le 500 (length groups)) (faults.TooMany (length groups)) ∷ [])
+    first_some (when (has_group groups name) faults.GroupExists ∷ when (nat_le MOST_GROUPS (length groups)) (faults.TooMany (length groups)) ∷ [])
 row_fault rows groups (writes.DeleteGroup name token) =
     first_some (when (same_text name default_name) faults.DefaultGroup ∷ when (not (has_group groups name)) faults.NoGroup ∷ [])

@@ -1,16 +1,16 @@
 -- What an incarnation does when: contents, each with the zone bytes under which it is read, its anchor and the
 -- span of instants that it covers. Read off the Change, Complete and Zone steps.
 use Rattle.std.specs.Prelude.{ℕ, ◌+◌, ◌==◌, min, Bool, true, false, ◌&&◌, if◌then◌else◌, Option, Some, None, is_some, List, [], ◌∷◌, ◌++◌, map, length, unwrap_or}
-use Rattle.sched_plain.specs.declared.expression.Expr.{Expr}
-use Rattle.sched_plain.specs.declared.expression.Expr.TheVariants as exprs
+use Rattle.expressions.specs.declared.expression.Expr.{Expr}
+use Rattle.expressions.specs.declared.expression.Expr.TheVariants as exprs
 use Rattle.sched_plain.specs.declared.schedule.Schedule.{Schedule}
 use Rattle.sched_plain.specs.declared.write.Write.{Write}
 use Rattle.sched_plain.specs.declared.write.Write.TheVariants as writes
 use Rattle.sched_plain.specs.declared.row.Row.{Row}
 use Rattle.sched_plain.specs.declared.step.Step.TheVariants as steps
 use Rattle.sched_plain.specs.History.{History, beginning, ◌upon◌}
-use Rattle.sched_plain.specs.Moments.{last_moment}
-use Rattle.sched_plain.specs.Lists.{nth, some_pass}
+use Rattle.plain_words.specs.Moments.{last_moment}
+use Rattle.plain_words.specs.Lists.{nth, some_pass}
 use Rattle.sched_plain.specs.Changes.{changes_of}
 use Rattle.sched_plain.specs.Rows.{Deed, Nothing, Renews, Ends, same_text, deed_of, rows_of, incs_where, current_of}
 use Rattle.sched_plain.specs.Zones.{bytes_of, read_under}

@@ -4,12 +4,12 @@ use Rattle.std.specs.Option.{option_and_then, option_map}
 use Rattle.sched_plain.specs.declared.schedule.Policy.{Policy}
 use Rattle.sched_plain.specs.declared.step.Pair.{Pair}
 use Rattle.sched_plain.specs.declared.step.Step.TheVariants as steps
-use Rattle.sched_plain.specs.declared.verdict.Reason.{Reason}
-use Rattle.sched_plain.specs.declared.verdict.Verdict.{Verdict}
+use Rattle.sched_plain.specs.declared.outcome.Reason.{Reason}
+use Rattle.plain_words.specs.declared.verdict.Verdict.{Verdict}
 use Rattle.sched_plain.specs.declared.row.Row.{Row}
 use Rattle.sched_plain.specs.declared.write.Write.{Write}
 use Rattle.sched_plain.specs.History.{History, beginning, ◌upon◌}
-use Rattle.sched_plain.specs.Lists.{head, only_if}
+use Rattle.plain_words.specs.Lists.{head, only_if}
 use Rattle.sched_plain.specs.Changes.{changes_of}
 use Rattle.sched_plain.specs.Rows.{Deed, Nothing, Renews, Ends, deed_of, rows_of, incs_where, content_at}
 use Rattle.sched_plain.specs.Leases.{holder, is_taking}

@@ -4,8 +4,8 @@ use Rattle.std.specs.Option.{option_map}
 use Rattle.sched_plain.specs.declared.step.Step.{Step}
 use Rattle.sched_plain.specs.declared.why.Why.{Why}
 use Rattle.sched_plain.specs.History.{History, beginning, ◌upon◌, count}
-use Rattle.sched_plain.specs.Lists.{or_else}
-use Rattle.sched_plain.specs.Calendar.{Calendar}
+use Rattle.plain_words.specs.Lists.{or_else}
+use Rattle.expressions.specs.Calendar.{Calendar}
 use Rattle.sched_plain.specs.Seen.{seen}
 use Rattle.sched_plain.specs.Rules.{rule}
 

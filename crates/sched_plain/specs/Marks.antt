@@ -7,12 +7,12 @@ use Rattle.sched_plain.specs.declared.step.Step.TheVariants as steps
 use Rattle.sched_plain.specs.declared.write.Write.{Write}
 use Rattle.sched_plain.specs.declared.write.Write.TheVariants as writes
 use Rattle.sched_plain.specs.History.{History, beginning, ◌upon◌}
-use Rattle.sched_plain.specs.Ids.{shard_of}
-use Rattle.sched_plain.specs.Lists.{nth, last}
+use Rattle.plain_words.specs.Ids.{shard_of}
+use Rattle.plain_words.specs.Lists.{nth, last}
 use Rattle.sched_plain.specs.Changes.{changes_of}
 use Rattle.sched_plain.specs.Rows.{touches, deed_of, rows_of}
 use Rattle.sched_plain.specs.Items.{items}
-use Rattle.sched_plain.specs.Calendar.{Calendar}
+use Rattle.expressions.specs.Calendar.{Calendar}
 use Rattle.sched_plain.specs.Occurrences.{occ_below}
 use Rattle.sched_plain.specs.Ledger.{ledger_of}
 use Rattle.sched_plain.specs.Entries.{entries, is_paired}

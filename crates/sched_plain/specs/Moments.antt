@@ -1,17 +1,9 @@
--- Moments: whole seconds since 1970-01-01T00:00:00Z.
+-- The moments of steps and histories: whole seconds since 1970-01-01T00:00:00Z.
 use Rattle.std.specs.Prelude.{ℕ}
-use Rattle.sched_plain.specs.declared.moment.Moment.{Moment}
+pub use Rattle.plain_words.specs.Moments.{last_moment, moment_of}
 use Rattle.sched_plain.specs.declared.step.Step.{Step}
 use Rattle.sched_plain.specs.declared.step.Step.TheVariants as steps
 use Rattle.sched_plain.specs.History.{History, beginning, ◌upon◌}
-
--- the last moment that there is, 2199-12-31T23:59:59Z
-abbrev pub last_moment : ℕ
-last_moment = 7258118399
-
--- the moment so many seconds after 1970
-abbrev pub moment_of : ℕ → Moment
-moment_of n = record { 0 = n }
 
 -- the moment that a step carries
 abbrev pub at_of : Step → ℕ

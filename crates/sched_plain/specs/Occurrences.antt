@@ -1,14 +1,14 @@
 -- The occurrences of an incarnation: the instants, in the spans of its enabled items, at which it is to act.
-use Rattle.std.specs.Prelude.{ℕ, zero, suc, ◌+◌, nat_le, nat_lt, Bool, true, false, ◌&&◌, ◌||◌, Option, Some, None, List, []}
+use Rattle.std.specs.Prelude.{ℕ, ◌+◌, nat_le, nat_lt, Bool, true, ◌&&◌, Option, Some, None, List}
 use Rattle.std.specs.List.{list_any}
-use Rattle.sched_plain.specs.declared.expression.Expr.{Expr}
-use Rattle.sched_plain.specs.declared.expression.Expr.TheVariants as exprs
+use Rattle.expressions.specs.declared.expression.Expr.{Expr}
+use Rattle.expressions.specs.declared.expression.Expr.TheVariants as exprs
 use Rattle.sched_plain.specs.declared.schedule.Schedule.{Schedule}
 use Rattle.sched_plain.specs.History.{History}
-use Rattle.sched_plain.specs.Moments.{last_moment}
-use Rattle.sched_plain.specs.Lists.{put_if}
+use Rattle.plain_words.specs.Moments.{last_moment}
+use Rattle.plain_words.specs.Lists.{passing, any_passing}
 use Rattle.sched_plain.specs.Items.{Item, items}
-use Rattle.sched_plain.specs.Calendar.{Calendar}
+use Rattle.expressions.specs.Calendar.{Calendar}
 
 -- not before the date, if there is one
 abbrev pub not_before : Option ℕ → ℕ → Bool
@@ -36,11 +36,6 @@ occurs c item instant =
 abbrev pub occurs_in : Calendar → List Item → ℕ → Bool
 occurs_in c all instant = list_any (λ item. occurs c item instant) all
 
--- the numbers below a bound that pass a test, rising
-abbrev pub passing : (ℕ → Bool) → ℕ → List ℕ
-passing test zero = []
-passing test (suc n) = put_if (test n) n (passing test n)
-
 -- the occurrences of these items below a bound, rising
 unfoldable pub occ_below : Calendar → List Item → ℕ → List ℕ
 occ_below c all bound = passing (occurs_in c all) bound
@@ -48,11 +43,6 @@ occ_below c all bound = passing (occurs_in c all) bound
 -- the occurrences of an incarnation up to a moment
 abbrev pub occ : Calendar → History → ℕ → ℕ → List ℕ
 occ c h inc t = occ_below c (items h inc) (t + 1)
-
--- one of the numbers below a bound passes a test
-abbrev pub any_passing : (ℕ → Bool) → ℕ → Bool
-any_passing test zero = false
-any_passing test (suc n) = any_passing test n || test n
 
 -- these items have an occurrence later than a moment
 unfoldable pub has_later : Calendar → List Item → ℕ → Bool

@@ -7,10 +7,10 @@ use Rattle.sched_plain.specs.declared.standing.Standing.{Standing}
 use Rattle.sched_plain.specs.declared.standing.Standing.TheVariants as standings
 use Rattle.sched_plain.specs.declared.step.Pair.{Pair}
 use Rattle.sched_plain.specs.declared.step.Step.TheVariants as steps
-use Rattle.sched_plain.specs.declared.verdict.Outcome.TheVariants as outcomes
-use Rattle.sched_plain.specs.declared.moment.Moment.{Moment}
+use Rattle.sched_plain.specs.declared.outcome.Outcome.TheVariants as outcomes
+use Rattle.plain_words.specs.declared.moment.Moment.{Moment}
 use Rattle.sched_plain.specs.History.{History, beginning, ◌upon◌, count}
-use Rattle.sched_plain.specs.Lists.{numbers}
+use Rattle.plain_words.specs.Lists.{numbers}
 use Rattle.sched_plain.specs.Changes.{changes_of}
 use Rattle.sched_plain.specs.Rows.{rows_of}
 use Rattle.sched_plain.specs.Groups.{groups_of, living_count}

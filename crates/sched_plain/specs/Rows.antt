@@ -8,9 +8,9 @@ use Rattle.sched_plain.specs.declared.write.Write.{Write}
 use Rattle.sched_plain.specs.declared.write.Write.TheVariants as writes
 use Rattle.sched_plain.specs.declared.row.Row.{Row}
 use Rattle.sched_plain.specs.declared.row.Revision.{Revision}
-use Rattle.sched_plain.specs.Moments.{last_moment, moment_of}
-pub use Rattle.sched_plain.specs.Lists.{same_text}
-use Rattle.sched_plain.specs.Lists.{nth, change_nth, numbers, head, last, some_pass}
+use Rattle.plain_words.specs.Moments.{last_moment, moment_of}
+pub use Rattle.plain_words.specs.Lists.{same_text}
+use Rattle.plain_words.specs.Lists.{nth, change_nth, numbers, head, last, some_pass}
 use Rattle.sched_plain.specs.Changes.{Accepted, Written, Removed}
 
 -- the living schedule of this group and name

@@ -10,8 +10,8 @@ use Rattle.sched_plain.specs.declared.standing.Standing.TheVariants as standings
 use Rattle.sched_plain.specs.declared.step.Pair.{Pair}
 use Rattle.sched_plain.specs.declared.step.Step.{Step}
 use Rattle.sched_plain.specs.declared.step.Step.TheVariants as steps
-use Rattle.sched_plain.specs.declared.verdict.Reason.{Reason}
-use Rattle.sched_plain.specs.declared.verdict.Reason.TheVariants as reasons
+use Rattle.sched_plain.specs.declared.outcome.Reason.{Reason}
+use Rattle.sched_plain.specs.declared.outcome.Reason.TheVariants as reasons
 use Rattle.sched_plain.specs.declared.why.RowFault.{RowFault}
 use Rattle.sched_plain.specs.declared.why.Why.{Why}
 use Rattle.sched_plain.specs.declared.why.Why.TheVariants as whys
@@ -19,9 +19,10 @@ use Rattle.sched_plain.specs.declared.work.Work.{Work}
 use Rattle.sched_plain.specs.declared.work.Work.TheVariants as works
 use Rattle.sched_plain.specs.declared.write.Write.{Write}
 use Rattle.sched_plain.specs.declared.write.Write.TheVariants as writes
-use Rattle.sched_plain.specs.Ids.{shard_of}
-use Rattle.sched_plain.specs.Moments.{moment_of, at_of}
-use Rattle.sched_plain.specs.Lists.{first_some, when}
+use Rattle.plain_words.specs.Ids.{shard_of}
+use Rattle.plain_words.specs.Moments.{moment_of}
+use Rattle.sched_plain.specs.Moments.{at_of}
+use Rattle.plain_words.specs.Lists.{first_some, when}
 use Rattle.sched_plain.specs.Zones.{is_utc}
 use Rattle.sched_plain.specs.Leases.{is_taking, is_held, is_taker}
 use Rattle.sched_plain.specs.Tokens.{token_of}
@@ -29,6 +30,7 @@ use Rattle.sched_plain.specs.Attempts.{is_live_attempt}
 use Rattle.sched_plain.specs.Standing.{standing_of}
 use Rattle.sched_plain.specs.Seen.{Seen, ZonesSeen}
 use Rattle.sched_plain.specs.Work.{Occurrence, first_open, completable, work}
+use Rattle.plain_words.specs.declared.limits.TheConstants.{LONGEST_ZONE}
 
 -- moments never fall, and a Boot has the moment of the step before it
 abbrev pub moment_rule : ℕ → Step → Option Why
@@ -144,7 +146,7 @@ is_zone_unknown zones (Some zone) = not (is_utc zone) && is_none (zones.bytes zo
 abbrev pub kind_table : Seen → Step → List (Option Why)
 kind_table v (steps.Boot at) = []
 kind_table v (steps.Zone at name bytes) =
-    zone_table (is_utc name || is_some (v.zones.bytes name)) (v.zones.readable bytes && nat_le (length bytes) 65536)
+    zone_table (is_utc name || is_some (v.zones.bytes name)) (v.zones.readable bytes && nat_le (length bytes) LONGEST_ZONE)
     (first_open v.times at.0 (v.rows.rezoned name))
 kind_table v (steps.Change at write) =
     change_table (is_zone_unknown v.zones (zone_of write)) (v.rows.fault write) (option_and_then v.kept (token_of write))

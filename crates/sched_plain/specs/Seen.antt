@@ -13,7 +13,7 @@ use Rattle.sched_plain.specs.Rows.{rows_of, touched_by, content_at, current}
 use Rattle.sched_plain.specs.Groups.{groups_of, row_fault}
 use Rattle.sched_plain.specs.Zones.{bytes_of}
 use Rattle.sched_plain.specs.Items.{items, rezoned_by}
-use Rattle.sched_plain.specs.Calendar.{Calendar}
+use Rattle.expressions.specs.Calendar.{Calendar}
 use Rattle.sched_plain.specs.Occurrences.{has_later}
 use Rattle.sched_plain.specs.Marks.{unentered}
 use Rattle.sched_plain.specs.Leases.{holder}

@@ -8,8 +8,8 @@ use Rattle.sched_plain.specs.declared.entry.Last.TheVariants as lasts
 use Rattle.sched_plain.specs.declared.schedule.Policy.{Policy}
 use Rattle.sched_plain.specs.declared.standing.Standing.{Standing}
 use Rattle.sched_plain.specs.declared.standing.Standing.TheVariants as standings
-use Rattle.sched_plain.specs.declared.verdict.Reason.TheVariants as reasons
-use Rattle.sched_plain.specs.Lists.{first_some, when}
+use Rattle.sched_plain.specs.declared.outcome.Reason.TheVariants as reasons
+use Rattle.plain_words.specs.Lists.{first_some, when}
 use Rattle.sched_plain.specs.Attempts.{is_live_last}
 
 -- how long to wait after the n-th attempt, in seconds: doubled each time, at most a quarter of an hour

@@ -1,8 +1,6 @@
-use crate::copying::TryCopy;
-use crate::items::Items;
-use crate::moment::Moment;
+use crate::outcome::Outcome;
 use crate::schedule::Policy;
-use crate::verdict::{Outcome, Verdict};
+use plain_words::{Items, Moment, TryCopy, Verdict};
 use std::alloc::AllocError;
 
 /// What became of an entry's last attempt, with the moment of its Begin where it is live, and

@@ -1,9 +1,5 @@
-use crate::copying::TryCopy;
-use crate::items::Items;
-use crate::moment::Moment;
-use crate::name::Name;
 use crate::schedule::Schedule;
-use crate::text::Text;
+use plain_words::{Items, Moment, Name, TryCopy};
 use std::alloc::AllocError;
 
 /// A content of an incarnation with the span of instants that it covers, both ends included.
@@ -29,28 +25,6 @@ pub struct Row {
     pub revisions: Revisions,
 }
 
-/// A schedule as a list of schedules shows it.
-#[derive(Debug, Drop)]
-pub struct ListRow {
-    pub group: Name,
-    pub name: Name,
-    pub created: Moment,
-    pub changed: Moment,
-    pub enabled: bool,
-    pub target: Text,
-}
-
-/// The rows of a list of schedules, in order.
-pub type ListRows = Items<ListRow>;
-
-/// A part of the list of schedules.
-#[derive(Debug, Drop)]
-pub struct Page {
-    pub rows: ListRows,
-    /// Whether further rows follow.
-    pub more: bool,
-}
-
 /// A group of schedules.
 #[derive(Debug, Drop)]
 pub struct GroupRow {
@@ -60,14 +34,6 @@ pub struct GroupRow {
 
 /// The rows of a list of groups, in order.
 pub type GroupRows = Items<GroupRow>;
-
-/// A part of the list of groups.
-#[derive(Debug, Drop)]
-pub struct GroupPage {
-    pub groups: GroupRows,
-    /// Whether further groups follow.
-    pub more: bool,
-}
 
 impl TryCopy for Revision {
     fn copy(&self) -> Result<Revision, AllocError> {
@@ -92,42 +58,11 @@ impl TryCopy for Row {
     }
 }
 
-impl TryCopy for ListRow {
-    fn copy(&self) -> Result<ListRow, AllocError> {
-        Ok(ListRow {
-            group: self.group.copy()?,
-            name: self.name.copy()?,
-            created: self.created,
-            changed: self.changed,
-            enabled: self.enabled,
-            target: self.target.copy()?,
-        })
-    }
-}
-
-impl TryCopy for Page {
-    fn copy(&self) -> Result<Page, AllocError> {
-        Ok(Page {
-            rows: self.rows.copy()?,
-            more: self.more,
-        })
-    }
-}
-
 impl TryCopy for GroupRow {
     fn copy(&self) -> Result<GroupRow, AllocError> {
         Ok(GroupRow {
             name: self.name.copy()?,
             created: self.created,
-        })
-    }
-}
-
-impl TryCopy for GroupPage {
-    fn copy(&self) -> Result<GroupPage, AllocError> {
-        Ok(GroupPage {
-            groups: self.groups.copy()?,
-            more: self.more,
         })
     }
 }

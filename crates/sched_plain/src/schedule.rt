@@ -1,10 +1,8 @@
 ghost use Rattle.std.specs.Prelude.{◌≡◌, ◌↔◌, IsTrue, IfOk};
 ghost use Rattle.sched_plain.specs.Contents.{SameTexts, SameTiming};
 
-use crate::copying::TryCopy;
-use crate::expression::Expr;
-use crate::text::Text;
-use crate::zone_name::ZoneName;
+use expressions::Expr;
+use plain_words::{Text, TryCopy, ZoneName, copy_option};
 use std::alloc::AllocError;
 
 /// How often and for how long an occurrence is tried again (EventBridge Scheduler, `RetryPolicy`).
@@ -88,16 +86,6 @@ impl Schedule {
         ensures { IsTrue result ↔ (self.now ≡ other.now) }
     {
         has_same_texts(self, other) && has_same_timing(self, other)
-    }
-}
-
-/// A copy of what may be there.
-pub fn copy_option<T: TryCopy>(value: &Option<T>) -> Result<Option<T>, AllocError>
-    ensures { IfOk result (λ copy. copy ≡ value.now) }
-{
-    match value {
-        None => Ok(None),
-        Some(value) => Ok(Some(value.copy()?)),
     }
 }
 

@@ -1,4 +1,4 @@
-use crate::verdict::{Outcome, Reason};
+use crate::outcome::{Outcome, Reason};
 
 /// Where an entry stands at a moment; the first of these that holds.
 #[derive(Debug, Clone, Copy, PartialEq, Eq)]

@@ -1,10 +1,6 @@
-use crate::blob::Blob;
-use crate::copying::TryCopy;
-use crate::items::Items;
-use crate::moment::Moment;
-use crate::verdict::{Reason, Verdict};
+use crate::outcome::Reason;
 use crate::write::Write;
-use crate::zone_name::ZoneName;
+use plain_words::{Blob, Items, Moment, TryCopy, Verdict, ZoneName};
 use std::alloc::AllocError;
 
 /// An occurrence as it is entered: its instant, and the moment from which on it may be sent.

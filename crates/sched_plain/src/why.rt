@@ -1,6 +1,6 @@
-use crate::moment::Moment;
 use crate::standing::Standing;
 use crate::work::Work;
+use plain_words::Moment;
 
 /// Why a write does not fit the schedules and groups that are there.
 #[derive(Debug, Clone, Copy, PartialEq, Eq)]

@@ -1,4 +1,4 @@
-use crate::verdict::Reason;
+use crate::outcome::Reason;
 
 /// The next thing to do in a shard.
 #[derive(Debug, Clone, Copy, PartialEq, Eq)]

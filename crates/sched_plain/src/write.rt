@@ -1,10 +1,8 @@
 ghost use Rattle.std.specs.Prelude.{◌≡◌, ◌↔◌, IsTrue, IfOk};
 ghost use Rattle.sched_plain.specs.declared.write.Write.TheVariants.{CreateSchedule, UpdateSchedule, DeleteSchedule, CreateGroup, DeleteGroup};
 
-use crate::copying::TryCopy;
-use crate::name::Name;
-use crate::schedule::{Schedule, copy_option};
-use crate::token::Token;
+use crate::schedule::Schedule;
+use plain_words::{Name, Token, TryCopy, copy_option};
 use std::alloc::AllocError;
 
 /// A call that changes schedules or groups, with the caller's token where it gave one.

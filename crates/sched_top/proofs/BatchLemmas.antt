@@ -5,8 +5,9 @@ use Rattle.std.specs.Option.{option_map}
 use Rattle.std.proofs.lemmas.List.{length_push}
 use Rattle.std.proofs.lemmas.Grind.{flat_map-append}
 use Rattle.sched_plain.specs.declared.step.Step.TheVariants as steps
-use Rattle.sched_plain.specs.History.{History, beginning, ◌upon◌, Extends, as_it_was, with_step, count}
+use Rattle.sched_plain.specs.History.{History, beginning, ◌upon◌, Extends, as_it_was, count}
 use Rattle.sched_plain.specs.Validity.{AllValid}
+use Rattle.sched_plain.proofs.HistoryLemmas.{extends_through}
 use Rattle.sched_plain.specs.Legal.{IsLegal}
 use Rattle.book_laws.proofs.EntriesExact.{entries_exact, entries_rise}
 use Rattle.book_laws.proofs.FirstSteps.{prefixes_are_legal}
@@ -17,13 +18,15 @@ use Rattle.book_core.specs.Form.{IsSound}
 use Rattle.target_link.specs.declared.link.Sent.{Sent}
 use Rattle.http_wire.specs.declared.request.HttpRequest.{HttpRequest}
 use Rattle.http_wire.specs.Devices.{Gives, Gets, GetsPart}
-use Rattle.http_wire.specs.Framing.{message_bytes, IsFramed, request_of, TakesRequest, TakesPart, TakesAtMostOne, HasNoMessage}
+use Rattle.http_wire.specs.Framing.{message_bytes, IsFramed, request_of, TakesRequest, TakesPart, TakesAtMostOne, IsNoMessage}
 use Rattle.timer_work.specs.Sweeping.{Sends}
 use Rattle.sched_top.specs.Serving.{Answers}
-use Rattle.sched_top.specs.Batch.{booted, Exchange, bytes_read, bytes_sent, Served, IsKept, IsHanded, Keeps, Ran, Told, RunFinished, RunStopped, RunWanting, RunUnframed, RunCutOff, unframed_text}
+use Rattle.sched_top.specs.Batch.{booted, Exchange, bytes_read, bytes_sent, Served, IsKept, IsHanded, Keeps, Ran, Told, RunFinished, RunStopped, RunWanting, RunUnframed, RunCutOff, RunEnds, BatchEnds, RefusalEnds, unframed_text}
+use Rattle.sched_top.specs.declared.batch.BatchEnd.{BatchEnd}
+use Rattle.sched_top.specs.declared.batch.BatchEnd.TheVariants as ends
 use Rattle.sched_top.specs.Turns.{Turn, IsGiven, IsPartGiven, Underway}
 use Rattle.http_wire.proofs.DeviceLemmas.{Gives-append, Gets-append, Gives-nil, Gets-nil}
-use Rattle.sched_top.proofs.CreationLemmas.{same_told}
+use Rattle.timer_work.proofs.SendLemmas.{told_same}
 
 -- one more exchange behind those before
 pub Served-push : (before middle after : History) (now at at' : ℕ) (exchanges : List Exchange) (x : Exchange)
@@ -42,11 +45,6 @@ sound_legal (s upon h) p = (sound_legal h p.0, p.1.follows)
 pub sound_valid : (h : History) → IsSound h → AllValid h
 sound_valid beginning p = tt
 sound_valid (s upon h) p = (sound_valid h p.0, p.1.valid)
-
--- one extension behind another
-pub extends_through : {h mid after : History} → Extends h mid → Extends mid after → Extends h after
-extends_through a as_it_was = a
-extends_through a (with_step s b) = with_step s (extends_through a b)
 
 -- what was told grows by one list and then by another
 told_more : (told : Option (List Sent)) (some more : List Sent) → option_map (λ before. before ++ more) (option_map (λ earlier. earlier ++ some) told) ≡ option_map (λ earlier. earlier ++ (some ++ more)) told
@@ -130,7 +128,7 @@ underway_first stands told st = record {
   };
   grows = as_it_was;
   ran = record { exchanges = []; many = refl; batch = (refl, refl); read = Gives-nil told.left; sent = Gets-nil told.got };
-  handed = record { sent = []; more = same_told told.handed; reported = record { requests = refl; heard = tt } };
+  handed = record { sent = []; more = told_same told.handed; reported = record { requests = refl; heard = tt } };
 }
 
 keeps : (stands : History → Type 0) (number : ℕ) (before : History) (now : ℕ) (old new : Told) → (u : Underway stands number before now old new) → Keeps before u.after old.handed new.handed
@@ -200,7 +198,7 @@ at_most_one before after part = record { taken = part.taken; within = λ m rest 
 
 -- what is no request was answered, or a front of the answer was taken
 pub unframed : (stands : History → Type 0) (number : ℕ) (before : History) (now : ℕ) (old mid new : Told) (many : ℕ) → (u : Underway stands number before now old mid)
-    → ((h : History) → stands h → many ≡ count h) → IfSome mid.left HasNoMessage → TakesPart mid.left new.left → Gets mid.got (unframed_text (number + 1) many) new.got → new.handed ≡ mid.handed
+    → ((h : History) → stands h → many ≡ count h) → IfSome mid.left IsNoMessage → TakesPart mid.left new.left → Gets mid.got (unframed_text (number + 1) many) new.got → new.handed ≡ mid.handed
     → RunUnframed before old new
 unframed stands number before now old mid new many u counts none taken gets same = record {
   number = number;
@@ -235,7 +233,7 @@ cut_answer stands stands' number before now at old mid new request u takes turn 
         message = takes.message;
         framed = takes.framed;
         taken = takes.taken;
-        told = at;
+        stated = at;
         served = subst P takes.asked turn.outcome.answers;
       });
       keeps = keeps_of before turn.after old.handed new.handed (extends_through u.grows turn.grows) turn.ready.sound
@@ -245,7 +243,7 @@ cut_answer stands stands' number before now at old mid new request u takes turn 
 
 -- the sink failed while what is no request was answered
 pub cut_unframed : (stands : History → Type 0) (number : ℕ) (before : History) (now : ℕ) (old mid new : Told) (many : ℕ) → (u : Underway stands number before now old mid)
-    → ((h : History) → stands h → many ≡ count h) → IfSome mid.left HasNoMessage → TakesPart mid.left new.left → GetsPart mid.got (unframed_text (number + 1) many) new.got → new.handed ≡ mid.handed
+    → ((h : History) → stands h → many ≡ count h) → IfSome mid.left IsNoMessage → TakesPart mid.left new.left → GetsPart mid.got (unframed_text (number + 1) many) new.got → new.handed ≡ mid.handed
     → RunCutOff before old new
 cut_unframed stands number before now old mid new many u counts none taken gets same = record {
   number = number;
@@ -260,6 +258,31 @@ cut_unframed stands number before now old mid new many u counts none taken gets 
   keeps = keeps_same before u.after old.handed mid.handed new.handed same (keeps stands number before now old mid u);
   part = gets;
 }
+
+-- so the run ends as the answer to what is no request does
+pub refusal_ends : (stands : History → Type 0) (number : ℕ) (before : History) (now : ℕ) (old mid new : Told) (many : ℕ) (end : BatchEnd) → (u : Underway stands number before now old mid)
+    → ((h : History) → stands h → many ≡ count h) → IfSome mid.left IsNoMessage → TakesPart mid.left new.left → RefusalEnds end mid.got (unframed_text (number + 1) many) new.got → new.handed ≡ mid.handed
+    → RunEnds end before old new
+refusal_ends stands number before now old mid new many ends.Finished u counts none taken given same = absurd given
+refusal_ends stands number before now old mid new many ends.SourceFailed u counts none taken given same = absurd given
+refusal_ends stands number before now old mid new many ends.SinkFailed u counts none taken given same =
+    cut_unframed stands number before now old mid new many u counts none taken given same
+refusal_ends stands number before now old mid new many ends.OutOfMemory u counts none taken given same =
+    wanting_silent stands number before now old mid new u (at_most_one mid.left new.left taken) given same
+refusal_ends stands number before now old mid new many ends.Unframed u counts none taken given same =
+    unframed stands number before now old mid new many u counts none taken given same
+
+-- the source does not fail at an answer
+pub refused_not_read : (end : BatchEnd) (got got' : Option (List ℕ)) (answer : List ℕ) → RefusalEnds end got answer got' → end ≡ ends.SourceFailed → ⊥
+refused_not_read end got got' answer given is = rw is at given
+
+-- a batch ends as its run does
+pub batch_ends : (end : BatchEnd) (before : History) (old new : Told) → RunEnds end before old new → BatchEnds end before old new
+batch_ends ends.Finished before old new run = run
+batch_ends ends.SourceFailed before old new run = run
+batch_ends ends.SinkFailed before old new run = run
+batch_ends ends.OutOfMemory before old new run = inr run
+batch_ends ends.Unframed before old new run = run
 
 -- what a source may give was below 2^64 when the run began: it is so at each read, and at the first nothing was taken
 pub small_at_start : (number now start : ℕ) → now < 2 ^ 64 → (number ≡ 0 → now ≡ start) → (0 < number → start < 2 ^ 64) → start < 2 ^ 64

@@ -1,5 +1,5 @@
 -- A creation, by the first rule that it breaks.
-use Rattle.std.proofs.Common.{◌≡◌, ℕ, ◌+◌, ◌-◌, ◌<◌, Bool, true, false, not, Option, Some, None, Ok, Err, List, [], ◌∷◌, ◌++◌, length, is_some, refl, sym, ap, subst, ◌∙◌, append-nil, inl, inr, arith}
+use Rattle.std.proofs.Common.{◌≡◌, ℕ, ◌+◌, ◌-◌, ◌<◌, Bool, true, false, not, Option, Some, None, Ok, Err, List, [], ◌∷◌, length, is_some, refl, sym, ap, subst, ◌∙◌, inl, inr, arith}
 use Rattle.std.specs.Prelude.{IsTrue, ◌↔◌, nat_lt, is_none, if◌then◌else◌}
 use Rattle.std.specs.Option.{option_map, option_and_then}
 use Rattle.std.proofs.lemmas.Bool.{cases_eq}
@@ -11,8 +11,9 @@ use Rattle.sched_plain.specs.declared.why.Why.TheVariants as whys
 use Rattle.sched_plain.specs.declared.write.Write.{Write}
 use Rattle.sched_plain.specs.declared.write.Write.TheVariants as writes
 use Rattle.sched_plain.specs.History.{History, ◌upon◌, count, as_it_was, with_step}
-use Rattle.sched_plain.specs.Moments.{moment, moment_of}
-use Rattle.sched_plain.specs.Lists.{nth, first_some, when}
+use Rattle.sched_plain.specs.Moments.{moment}
+use Rattle.plain_words.specs.Moments.{moment_of}
+use Rattle.plain_words.specs.Lists.{nth, first_some, when}
 use Rattle.sched_plain.specs.Changes.{changes_of}
 use Rattle.sched_plain.specs.Rows.{rows_of, touched_by}
 use Rattle.sched_plain.specs.Groups.{living_count}
@@ -23,21 +24,21 @@ use Rattle.sched_plain.specs.Tokens.{kept_of, kept_under, kept_place, token_of}
 use Rattle.sched_plain.specs.Zones.{is_utc, bytes_of}
 use Rattle.sched_plain.specs.Work.{Occurrence, first_open}
 use Rattle.sched_plain.specs.Legal.{why}
-use Rattle.sched_plain.specs.Replies.{reply_to, row_refusal}
-use Rattle.sched_plain.specs.Serves.{Accepts, CatchUp, fault_of, kept_for, lacks_zone, with_zone, caught_up}
-use Rattle.book_laws.proofs.Searches.{nth_first, nth_rest, nth_past}
+use Rattle.sched_calls.specs.Replies.{reply_to, row_refusal}
+use Rattle.sched_calls.specs.Serves.{Accepts, CatchUp, fault_of, kept_for, lacks_zone, with_zone, caught_up}
+use Rattle.plain_words.proofs.ListLemmas.{AllNone, all_none, nth_first, nth_rest, nth_past}
+use Rattle.plain_words.proofs.Options.{map_none}
 use Rattle.book_core.specs.InUse.{calendar}
 use Rattle.book_core.specs.Form.{IsSound, is_first_write, is_first_content}
 use Rattle.book_core.specs.Births.{births}
 use Rattle.book_core.specs.Made.{row_names}
 use Rattle.book_core.proofs.BirthLemmas.{sound_first, rows_births}
 use Rattle.book_core.proofs.ChangeLemmas.{all_live, touched_none, utc_first, no_token}
-use Rattle.book_core.proofs.RuleLemmas.{AllNone, all_none, map_none}
 use Rattle.target_link.specs.declared.link.Sent.{Sent}
-use Rattle.timer_work.specs.Sendings.{Reported}
-use Rattle.timer_work.specs.Sweeping.{Sends}
+use Rattle.plain_words.specs.declared.limits.TheConstants.{MOST_SCHEDULES}
 use Rattle.sched_top.specs.Serving.{schedules_there, no_zones, answer_text}
 use Rattle.sched_top.specs.Turns.{IsReady, Turn, WriteServed}
+use Rattle.timer_work.proofs.SendLemmas.{sends_nothing}
 
 -- all schedules that were created are there
 pub all_there : (h : History) → IsSound h → schedules_there h ≡ length (rows_of (changes_of h))
@@ -63,27 +64,15 @@ none_there f (Some x) wanted false e w = (λ never. cc never, λ gone. cc (w ∙
 
 -- there is room for one more schedule where the last number that there is room for is not taken
 pub room_seen : {A : Type 0} (f : A → List ℕ × List ℕ) (named : Option A) (none : Bool) (h : History) → IsSound h
-    → is_some named ≡ not none → option_map f named ≡ option_map row_names (nth (rows_of (changes_of h)) 10000)
-    → IsTrue none ↔ (schedules_there h < 10000)
+    → is_some named ≡ not none → option_map f named ≡ option_map row_names (nth (rows_of (changes_of h)) MOST_SCHEDULES)
+    → IsTrue none ↔ (schedules_there h < MOST_SCHEDULES)
 room_seen f named none h sound e w =
     let rows = rows_of (changes_of h) in
-    let seen = none_there f named (option_map row_names (nth rows 10000)) none e w in
+    let seen = none_there f named (option_map row_names (nth rows MOST_SCHEDULES)) none e w in
     let many : schedules_there h ≡ length rows = all_there h sound in (
-      λ free. let short : length rows < 10000 = none_short rows 10000 (omega arith) (map_none row_names (nth rows 10000) (seen.0 free)) in omega (arith, many, short),
-      λ few. seen.1 (ap (option_map row_names) (nth_past rows 10000 (omega (arith, many, few)))),
+      λ free. let short : length rows < MOST_SCHEDULES = none_short rows MOST_SCHEDULES (omega arith) (map_none row_names (nth rows MOST_SCHEDULES) (seen.0 free)) in omega (arith, many, short),
+      λ few. seen.1 (ap (option_map row_names) (nth_past rows MOST_SCHEDULES (omega (arith, many, few)))),
     )
-
--- a link that was handed nothing tells what it told
-pub same_told : (told : Option (List Sent)) → told ≡ option_map (λ before. before ++ []) told
-same_told None = refl
-same_told (Some sent) = ap Some (sym (append-nil sent))
-
-pub sends_nothing : (before after : History) (told : Option (List Sent)) → ((sent : List Sent) → Reported before sent → Reported after sent) → Sends before after told told
-sends_nothing before after told keeps = record {
-  sent = [];
-  added = same_told told;
-  reported = λ earlier r. subst (λ (all : List Sent). Reported after all) (sym (append-nil earlier)) (keeps earlier r);
-}
 
 -- only the rule of the rows answers so
 row_only : (back unknown : Bool) (w z : Why) (fault : Option RowFault) (kept : Option ℕ) (found : Option Occurrence) (broken : RowFault) → (w ≡ whys.Row broken → ⊥) → (z ≡ whys.Row broken → ⊥)

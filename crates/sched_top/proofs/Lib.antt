@@ -1,3 +1,3 @@
-pub mod CreationLemmas
-pub mod ServingLemmas
-pub mod BatchLemmas
+mod CreationLemmas
+mod ServingLemmas
+mod BatchLemmas

@@ -1,14 +1,14 @@
 -- From the parts of the service to one request served.
 use Rattle.std.proofs.Common.{◌≡◌, ℕ, ◌<◌, ◌≤◌, Bool, true, false, Option, Some, None, Result, Ok, Err, List, [], refl, sym, ap, ◌∙◌, inl, inr, subst, arith}
-use Rattle.std.specs.Prelude.{IfOk, OnErr, OnOk, IsTrue}
-use Rattle.sched_plain.specs.declared.call.Call.{Call}
-use Rattle.sched_plain.specs.declared.call.Call.TheVariants as calls
-use Rattle.sched_plain.specs.Serves.{Asked}
-use Rattle.sched_plain.specs.declared.moment.Moment.{Moment}
-use Rattle.sched_plain.specs.declared.reply.Reply.TheVariants.{Settled}
+use Rattle.std.specs.Prelude.{IfOk, OnErr, IsTrue}
+use Rattle.sched_calls.specs.declared.call.Call.{Call}
+use Rattle.sched_calls.specs.declared.call.Call.TheVariants as calls
+use Rattle.sched_calls.specs.Serves.{Asked}
+use Rattle.plain_words.specs.declared.moment.Moment.{Moment}
+use Rattle.sched_calls.specs.declared.reply.Reply.TheVariants.{Settled}
 use Rattle.sched_plain.specs.declared.write.Write.{Write}
 use Rattle.sched_plain.specs.History.{History, Extends, as_it_was, with_step, count}
-use Rattle.sched_plain.specs.Moments.{moment_of, last_moment}
+use Rattle.plain_words.specs.Moments.{moment_of, last_moment}
 use Rattle.sched_plain.specs.Validity.{IfThere, IsMoment}
 use Rattle.target_link.specs.declared.link.Sent.{Sent}
 use Rattle.json_api.specs.declared.form.Form.{Form}
@@ -16,25 +16,29 @@ use Rattle.http_wire.specs.declared.request.HttpRequest.{HttpRequest}
 use Rattle.http_wire.specs.Response.{memory_text}
 use Rattle.json_api.specs.Forms.{Asks, HasNeitherForm}
 use Rattle.timer_work.specs.Sweeping.{Swept, SweepCut}
+use Rattle.plain_words.specs.declared.limits.TheConstants.{MOST_SCHEDULES}
 use Rattle.sched_top.specs.Serving.{schedules_there, later_of, not_yet, answer_text, HasForm, AsksFor, Demands, IsServed}
 use Rattle.sched_top.specs.Turns.{IsReady, Turn, WriteServed, SweepServed, SweepWanting, IsPart, IsGiven, IsPartGiven}
 use Rattle.http_wire.specs.Devices.{Gets, GetsPart}
 use Rattle.json_api.proofs.FormLemmas.{asks_once}
-use Rattle.sched_top.proofs.CreationLemmas.{sends_nothing}
+use Rattle.timer_work.proofs.SendLemmas.{sends_nothing}
+
+-- what follows from a fact of the value
+pub if_ok : {T E : Type 0} (r : Result T E) (P Q : T → Type 0) → ((x : T) → P x → Q x) → IfOk r P → IfOk r Q
+if_ok (Ok x) P Q f p = f x p
+if_ok (Err e) P Q f p = p
 
 -- what holds of a result under an assumption holds of its value
 pub if_ok_under : {A : Type 0} {T E : Type 0} (r : Result T E) (S : A → Type 0) (P : A → T → Type 0) → ((a : A) → S a → IfOk r (P a)) → IfOk r (λ x. (a : A) → S a → P a x)
 if_ok_under (Ok x) S P f = f
 if_ok_under (Err e) S P f = tt
 
+-- what holds anyway holds of an error
 pub on_err : {T E : Type 0} (r : Result T E) (P : Type 0) → P → OnErr r P
 on_err (Ok x) P p = tt
 on_err (Err e) P p = p
 
-pub on_ok_map : {T E : Type 0} (r : Result T E) (P Q : Type 0) → (P → Q) → OnOk r P → OnOk r Q
-on_ok_map (Ok x) P Q f p = f p
-on_ok_map (Err e) P Q f p = tt
-
+-- what follows where a call failed
 pub on_err_map : {T E : Type 0} (r : Result T E) (P Q : Type 0) → (P → Q) → OnErr r P → OnErr r Q
 on_err_map (Ok x) P Q f p = tt
 on_err_map (Err e) P Q f p = f p
@@ -69,8 +73,8 @@ turn_still stands h at told P st ready p = record {
   outcome = p;
 }
 
--- a moment that is told is no earlier, and within the calendar
-pub later_bounds : (now : ℕ) (told : Option Moment) → now ≤ last_moment → IfThere (λ (m : Moment). IsMoment m.0) told → (now ≤ later_of now told) × (later_of now told ≤ last_moment)
+-- a moment that is stated is no earlier, and within the calendar
+pub later_bounds : (now : ℕ) (stated : Option Moment) → now ≤ last_moment → IfThere (λ (m : Moment). IsMoment m.0) stated → (now ≤ later_of now stated) × (later_of now stated ≤ last_moment)
 later_bounds now None early valid = (omega arith, early)
 later_bounds now (Some m) early valid = (omega arith, omega (arith, early, valid))
 
@@ -83,16 +87,16 @@ ready_later h now at before late ready = record {
 }
 
 -- a history can be gone on from at the moment that a request tells
-pub ready_told : (h : History) (now : ℕ) (told : Option Moment) (at : ℕ) → at ≡ later_of now told → now ≤ last_moment → IfThere (λ (m : Moment). IsMoment m.0) told → IsReady h now → IsReady h at
-ready_told h now told at is late valid ready =
-    let bounds = later_bounds now told late valid in
-    subst (IsReady h) (sym is) (ready_later h now (later_of now told) bounds.0 bounds.1 ready)
+pub ready_stated : (h : History) (now : ℕ) (stated : Option Moment) (at : ℕ) → at ≡ later_of now stated → now ≤ last_moment → IfThere (λ (m : Moment). IsMoment m.0) stated → IsReady h now → IsReady h at
+ready_stated h now stated at is late valid ready =
+    let bounds = later_bounds now stated late valid in
+    subst (IsReady h) (sym is) (ready_later h now (later_of now stated) bounds.0 bounds.1 ready)
 
-pub told_late : (now : ℕ) (told : Option Moment) (at : ℕ) → at ≡ later_of now told → now ≤ last_moment → IfThere (λ (m : Moment). IsMoment m.0) told → at ≤ last_moment
-told_late now told at is late valid = subst (λ n. n ≤ last_moment) (sym is) (later_bounds now told late valid).1
+pub stated_late : (now : ℕ) (stated : Option Moment) (at : ℕ) → at ≡ later_of now stated → now ≤ last_moment → IfThere (λ (m : Moment). IsMoment m.0) stated → at ≤ last_moment
+stated_late now stated at is late valid = subst (λ n. n ≤ last_moment) (sym is) (later_bounds now stated late valid).1
 
-pub told_later : (now : ℕ) (told : Option Moment) (at : ℕ) → at ≡ later_of now told → now ≤ last_moment → IfThere (λ (m : Moment). IsMoment m.0) told → now ≤ at
-told_later now told at is late valid = subst (λ n. now ≤ n) (sym is) (later_bounds now told late valid).0
+pub stated_later : (now : ℕ) (stated : Option Moment) (at : ℕ) → at ≡ later_of now stated → now ≤ last_moment → IfThere (λ (m : Moment). IsMoment m.0) stated → now ≤ at
+stated_later now stated at is late valid = subst (λ n. now ≤ n) (sym is) (later_bounds now stated late valid).0
 
 pub never : (b : Bool) → b ≡ false → IsTrue b → ⊥
 never true e p = cc e
@@ -139,44 +143,44 @@ sweep_cut stands h at told told' ready swept = record {
 }
 
 -- a sweep that was served is a request served
-pub sweep_answered : (h : History) (now : ℕ) (request : HttpRequest) (told : Option Moment) (at : ℕ) (text : List ℕ)
-    → Asks request (record { told = told; call = calls.Sweep }) → at ≡ later_of now told → (after : History) → SweepServed h at after text → IsServed h now request after at text
-sweep_answered h now request told at text asks is after served = record {
+pub sweep_answered : (h : History) (now : ℕ) (request : HttpRequest) (stated : Option Moment) (at : ℕ) (text : List ℕ)
+    → Asks request (record { stated = stated; call = calls.Sweep }) → at ≡ later_of now stated → (after : History) → SweepServed h at after text → IsServed h now request after at text
+sweep_answered h now request stated at text asks is after served = record {
   asked = Ok calls.Sweep;
-  demands = record { form = record { told = told; call = calls.Sweep }; has = record { asks = asks; servable = tt }; is_call = refl; told = is };
+  demands = record { form = record { stated = stated; call = calls.Sweep }; has = record { asks = asks; servable = tt }; is_call = refl; stated = is };
   ends = served.ends;
   answer = Ok (Settled (moment_of at));
   serves = (served.swept, refl);
   text = served.text;
 }
 
-pub sweep_part : (h : History) (now : ℕ) (request : HttpRequest) (told : Option Moment) (at : ℕ)
-    → Asks request (record { told = told; call = calls.Sweep }) → at ≡ later_of now told → (after : History) → SweepWanting h at after → IsPart h now request at after
-sweep_part h now request told at asks is after wanting = inr (record {
+pub sweep_part : (h : History) (now : ℕ) (request : HttpRequest) (stated : Option Moment) (at : ℕ)
+    → Asks request (record { stated = stated; call = calls.Sweep }) → at ≡ later_of now stated → (after : History) → SweepWanting h at after → IsPart h now request at after
+sweep_part h now request stated at asks is after wanting = inr (record {
   call = calls.Sweep;
-  asks = record { form = record { told = told; call = calls.Sweep }; has = record { asks = asks; servable = tt }; is_call = refl; told = is };
+  asks = record { form = record { stated = stated; call = calls.Sweep }; has = record { asks = asks; servable = tt }; is_call = refl; stated = is };
   drawn = wanting.drawn;
   ends = wanting.ends;
   cut = wanting.cut;
 })
 
 -- a write that was served is a request served
-pub write_answered : (h : History) (now : ℕ) (request : HttpRequest) (told : Option Moment) (write : Write) (at : ℕ) (text : List ℕ)
-    → Asks request (record { told = told; call = calls.Write write }) → schedules_there h < 10000 → at ≡ later_of now told
+pub write_answered : (h : History) (now : ℕ) (request : HttpRequest) (stated : Option Moment) (write : Write) (at : ℕ) (text : List ℕ)
+    → Asks request (record { stated = stated; call = calls.Write write }) → schedules_there h < MOST_SCHEDULES → at ≡ later_of now stated
     → (after : History) → WriteServed h at write after text → IsServed h now request after at text
-write_answered h now request told write at text asks few is after served = record {
+write_answered h now request stated write at text asks few is after served = record {
   asked = Ok (calls.Write write);
-  demands = record { form = record { told = told; call = calls.Write write }; has = record { asks = asks; servable = few }; is_call = refl; told = is };
+  demands = record { form = record { stated = stated; call = calls.Write write }; has = record { asks = asks; servable = few }; is_call = refl; stated = is };
   ends = [];
   answer = served.answer;
   serves = (served.serves, refl);
   text = served.text;
 }
 
-pub write_part : (h : History) (now : ℕ) (request : HttpRequest) (told : Option Moment) (write : Write) (at : ℕ)
-    → Asks request (record { told = told; call = calls.Write write }) → schedules_there h < 10000 → at ≡ later_of now told → IsPart h now request at h
-write_part h now request told write at asks few is =
-    inl (refl, inr (calls.Write write, record { form = record { told = told; call = calls.Write write }; has = record { asks = asks; servable = few }; is_call = refl; told = is }))
+pub write_part : (h : History) (now : ℕ) (request : HttpRequest) (stated : Option Moment) (write : Write) (at : ℕ)
+    → Asks request (record { stated = stated; call = calls.Write write }) → schedules_there h < MOST_SCHEDULES → at ≡ later_of now stated → IsPart h now request at h
+write_part h now request stated write at asks few is =
+    inl (refl, inr (calls.Write write, record { form = record { stated = stated; call = calls.Write write }; has = record { asks = asks; servable = few }; is_call = refl; stated = is }))
 
 -- a request without a form was refused
 refused : (h : History) (now : ℕ) (request : HttpRequest) (text : List ℕ) → ((form : Form) → HasForm h request form → ⊥) → text ≡ answer_text (Err not_yet) (count h)
@@ -193,25 +197,25 @@ refused h now request text none is = record {
 pub refused_neither : (h : History) (now : ℕ) (request : HttpRequest) (text : List ℕ) → HasNeitherForm request → text ≡ answer_text (Err not_yet) (count h) → IsServed h now request h now text
 refused_neither h now request text neither is = refused h now request text (λ form has. neither form has.asks) is
 
-full_form : (h : History) (request : HttpRequest) (told : Option Moment) (write : Write) → Asks request (record { told = told; call = calls.Write write }) → (schedules_there h < 10000 → ⊥)
+full_form : (h : History) (request : HttpRequest) (stated : Option Moment) (write : Write) → Asks request (record { stated = stated; call = calls.Write write }) → (schedules_there h < MOST_SCHEDULES → ⊥)
     → (form : Form) → HasForm h request form → ⊥
-full_form h request told write asks full form has =
-    let same : form ≡ record { told = told; call = calls.Write write } = asks_once request form (record { told = told; call = calls.Write write }) has.asks asks in
+full_form h request stated write asks full form has =
+    let same : form ≡ record { stated = stated; call = calls.Write write } = asks_once request form (record { stated = stated; call = calls.Write write }) has.asks asks in
     let servable = rw same at has.servable in
     full servable
 
-pub refused_full : (h : History) (now : ℕ) (request : HttpRequest) (told : Option Moment) (write : Write) (text : List ℕ)
-    → Asks request (record { told = told; call = calls.Write write }) → (schedules_there h < 10000 → ⊥) → text ≡ answer_text (Err not_yet) (count h)
+pub refused_full : (h : History) (now : ℕ) (request : HttpRequest) (stated : Option Moment) (write : Write) (text : List ℕ)
+    → Asks request (record { stated = stated; call = calls.Write write }) → (schedules_there h < MOST_SCHEDULES → ⊥) → text ≡ answer_text (Err not_yet) (count h)
     → IsServed h now request h now text
-refused_full h now request told write text asks full is = refused h now request text (full_form h request told write asks full) is
+refused_full h now request stated write text asks full is = refused h now request text (full_form h request stated write asks full) is
 
 -- no moment is earlier than the one before it
-later_after : (now : ℕ) (told : Option Moment) → now ≤ later_of now told
+later_after : (now : ℕ) (stated : Option Moment) → now ≤ later_of now stated
 later_after now None = omega arith
 later_after now (Some m) = omega arith
 
 asks_later : (h : History) (now : ℕ) (request : HttpRequest) (call : Call) (at : ℕ) → AsksFor h now request call at → now ≤ at
-asks_later h now request call at asks = subst (λ n. now ≤ n) (sym asks.told) (later_after now asks.form.told)
+asks_later h now request call at asks = subst (λ n. now ≤ n) (sym asks.stated) (later_after now asks.form.stated)
 
 demands_later : (h : History) (now : ℕ) (request : HttpRequest) (asked : Asked) (at : ℕ) → Demands h now request asked at → now ≤ at
 demands_later h now request (Ok call) at d = asks_later h now request call at d

@@ -2,16 +2,17 @@
 -- history that the one before it left.
 use Rattle.std.specs.Prelude.{◌≡◌, ℕ, ◌+◌, ◌⊎◌, ◌<◌, ◌≤◌, ◌==◌, ◌||◌, Bool, List, [], ◌∷◌, ◌++◌, length, Option, option_map, IfSome, codes, decimal}
 use Rattle.std.specs.List.{flat_map, AllPairs}
-use Rattle.sched_plain.specs.declared.moment.Moment.{Moment}
+use Rattle.plain_words.specs.declared.moment.Moment.{Moment}
 use Rattle.sched_plain.specs.declared.step.Step.TheVariants.{Boot, Swept}
 use Rattle.sched_plain.specs.History.{History, ◌upon◌, Extends, count}
-use Rattle.sched_plain.specs.Ids.{shard_of}
-use Rattle.sched_plain.specs.Moments.{moment, moment_of}
+use Rattle.plain_words.specs.Ids.{shard_of}
+use Rattle.sched_plain.specs.Moments.{moment}
+use Rattle.plain_words.specs.Moments.{moment_of}
 use Rattle.sched_plain.specs.Validity.{AllValid}
 use Rattle.sched_plain.specs.Legal.{IsLegal}
 use Rattle.sched_plain.specs.Ledger.{ledger_of}
 use Rattle.sched_plain.specs.Entries.{entries, filed, instants_of}
-use Rattle.sched_plain.specs.Lists.{numbers}
+use Rattle.plain_words.specs.Lists.{numbers}
 use Rattle.sched_plain.specs.Attempts.{used}
 use Rattle.sched_plain.specs.Marks.{mark}
 use Rattle.book_laws.specs.EntryLaws.{occ_upto}
@@ -20,9 +21,11 @@ use Rattle.book_laws.specs.SweepLaws.{NothingLeft}
 use Rattle.book_core.specs.InUse.{calendar}
 use Rattle.target_link.specs.declared.link.Sent.{Sent}
 use Rattle.http_wire.specs.Devices.{Gives, Gets, GetsPart}
-use Rattle.http_wire.specs.Framing.{Message, message_bytes, IsFramed, request_of, HasNoMessage, TakesPart, TakesAtMostOne}
+use Rattle.http_wire.specs.Framing.{Message, message_bytes, IsFramed, request_of, IsNoMessage, TakesPart, TakesAtMostOne}
 use Rattle.http_wire.specs.Response.{refusal_text}
 use Rattle.timer_work.specs.Sendings.{Reported}
+use Rattle.sched_top.specs.declared.batch.BatchEnd.{BatchEnd}
+use Rattle.sched_top.specs.declared.batch.BatchEnd.TheVariants as ends
 use Rattle.sched_top.specs.Serving.{Answers}
 
 -- the history once the service is started upon it: a Boot at its last moment, 0 for the first
@@ -46,8 +49,8 @@ bytes_sent exchanges = flat_map (λ x. x.response) exchanges
 abbrev pub Served : History → ℕ → List Exchange → History → ℕ → Type 0
 Served before now [] after at = (after ≡ before) × (at ≡ now)
 Served before now (x ∷ more) after at =
-    (middle : History) × (told : ℕ) × IsFramed x.message
-    × Answers before now (request_of x.message) middle told x.response × Served middle told more after at
+    (middle : History) × (stated : ℕ) × IsFramed x.message
+    × Answers before now (request_of x.message) middle stated x.response × Served middle stated more after at
 
 -- the history after a batch run is the one before it, then a Boot, then what the requests added
 abbrev pub Batch : History → List Exchange → History → ℕ → Type 0
@@ -137,7 +140,7 @@ RunShort before old new = (new ≡ old) ⊎ RunWanting before old new
 abbrev pub unframed_text : ℕ → ℕ → List ℕ
 unframed_text number steps = refusal_text 400 1 (codes "request " ++ decimal number) steps
 
--- what stands behind the last request is none; it was answered so, and nothing more was taken or given
+-- something stands behind the last request, and it is none; it was answered so, and nothing more was taken or given
 pub record RunUnframed (before : History) (old new : Told) : Type 0 where
   pub number : ℕ
   pub after : History
@@ -146,7 +149,7 @@ pub record RunUnframed (before : History) (old new : Told) : Type 0 where
   pub sent : Option (List ℕ)
   pub ran : Ran number before after at old.left behind old.got sent
   pub keeps : Keeps before after old.handed new.handed
-  pub none : IfSome behind HasNoMessage
+  pub none : IfSome behind IsNoMessage
   pub taken : TakesPart behind new.left
   pub answered : Gets sent (unframed_text (number + 1) (count after)) new.got
 
@@ -155,12 +158,12 @@ pub record AnswersNext (after : History) (at : ℕ) (behind left : Option (List 
   pub message : Message
   pub framed : IsFramed message
   pub taken : Gives behind (message_bytes message) left
-  pub told : ℕ
-  pub served : Answers after at (request_of message) last told response
+  pub stated : ℕ
+  pub served : Answers after at (request_of message) last stated response
 
--- or none stands there, and this is the answer; the history is as it was
+-- or something stands there that is none, and this is the answer; the history is as it was
 pub record AnswersNone (number : ℕ) (after : History) (behind left : Option (List ℕ)) (response : List ℕ) (last : History) : Type 0 where
-  pub none : IfSome behind HasNoMessage
+  pub none : IfSome behind IsNoMessage
   pub taken : TakesPart behind left
   pub text : response ≡ unframed_text (number + 1) (count after)
   pub same : last ≡ after
@@ -178,6 +181,27 @@ pub record RunCutOff (before : History) (old new : Told) : Type 0 where
   pub due : AnswersNext after at behind new.left response last ⊎ AnswersNone number after behind new.left response last
   pub keeps : Keeps before last old.handed new.handed
   pub part : GetsPart sent response new.got
+
+-- how a run ends, by what a source, a sink and a link told before and tell now
+abbrev pub RunEnds : BatchEnd → History → Told → Told → Type 0
+RunEnds ends.Finished before old new = RunFinished before old new
+RunEnds ends.SourceFailed before old new = RunStopped before old new
+RunEnds ends.SinkFailed before old new = RunCutOff before old new
+RunEnds ends.OutOfMemory before old new = RunWanting before old new
+RunEnds ends.Unframed before old new = RunUnframed before old new
+
+-- how a batch ends: as its run does; memory may be wanted before the Boot too
+abbrev pub BatchEnds : BatchEnd → History → Told → Told → Type 0
+BatchEnds ends.OutOfMemory before old new = RunShort before old new
+BatchEnds end before old new = RunEnds end before old new
+
+-- how a run ends with the answer to what is no request: it was given, or a front of it was, or memory was wanted for it
+-- and nothing was given
+abbrev pub RefusalEnds : BatchEnd → Option (List ℕ) → List ℕ → Option (List ℕ) → Type 0
+RefusalEnds ends.Unframed got answer got' = Gets got answer got'
+RefusalEnds ends.SinkFailed got answer got' = GetsPart got answer got'
+RefusalEnds ends.OutOfMemory got answer got' = got' ≡ got
+RefusalEnds end got answer got' = ⊥
 
 -- the words of a batch run: `batch` alone
 abbrev pub IsBatch : List (List ℕ) → Type 0

@@ -1,21 +1,22 @@
 -- One request served over a history: what it asks for there, the history at its answer, and the response.
-use Rattle.std.specs.Prelude.{◌≡◌, ◌⊎◌, ℕ, ◌<◌, ◌≤◌, max, Option, Some, None, Result, Ok, Err, List, [], ◌++◌, codes, decimal}
-use Rattle.sched_plain.specs.declared.call.Call.{Call}
-use Rattle.sched_plain.specs.declared.call.Call.TheVariants as calls
-use Rattle.sched_plain.specs.declared.moment.Moment.{Moment}
-use Rattle.sched_plain.specs.declared.reply.Refusal.{Refusal}
-use Rattle.sched_plain.specs.declared.reply.Reply.{Reply}
-use Rattle.sched_plain.specs.declared.reply.Reply.TheVariants as replies
+use Rattle.std.specs.Prelude.{◌≡◌, ◌⊎◌, ℕ, ◌<◌, ◌≤◌, max, Option, Some, None, Result, Ok, Err, List, [], codes}
+use Rattle.sched_calls.specs.declared.call.Call.{Call}
+use Rattle.sched_calls.specs.declared.call.Call.TheVariants as calls
+use Rattle.plain_words.specs.declared.limits.TheConstants.{MOST_SCHEDULES}
+use Rattle.plain_words.specs.declared.moment.Moment.{Moment}
+use Rattle.sched_calls.specs.declared.reply.Refusal.{Refusal}
+use Rattle.sched_calls.specs.declared.reply.Reply.{Reply}
 use Rattle.sched_plain.specs.History.{History, Extends, count}
 use Rattle.sched_plain.specs.Changes.{changes_of}
 use Rattle.sched_plain.specs.Rows.{rows_of}
 use Rattle.sched_plain.specs.Groups.{living_count}
-use Rattle.sched_plain.specs.Replies.{refusal}
-use Rattle.sched_plain.specs.Serves.{ZoneSource, End, Asked, Serves, IsCut}
+use Rattle.sched_calls.specs.Replies.{refusal}
+use Rattle.sched_calls.specs.Serves.{ZoneSource, End, Asked, Serves, IsCut}
 use Rattle.book_core.specs.InUse.{calendar}
 use Rattle.json_api.specs.declared.form.Form.{Form}
 use Rattle.http_wire.specs.declared.request.HttpRequest.{HttpRequest}
 use Rattle.json_api.specs.Forms.{Asks}
+use Rattle.json_api.specs.Replies.{reply_body}
 use Rattle.timer_work.specs.Sweeping.{zeros}
 use Rattle.http_wire.specs.Response.{response_text, refusal_text, memory_text}
 
@@ -25,7 +26,7 @@ schedules_there h = living_count (rows_of (changes_of h))
 
 -- a creation is served while fewer than 10,000 schedules are there
 abbrev pub IsServable : History → Call → Type 0
-IsServable h (calls.Write write) = schedules_there h < 10000
+IsServable h (calls.Write write) = schedules_there h < MOST_SCHEDULES
 IsServable h call = Unit {0}
 
 -- over this history the request has this form
@@ -37,17 +38,17 @@ pub record HasForm (h : History) (request : HttpRequest) (form : Form) : Type 0 
 abbrev pub HasNoForm : History → HttpRequest → Type 0
 HasNoForm h request = (form : Form) → HasForm h request form → ⊥
 
--- the moment of the service once a form has told its own: the larger of the two
+-- the moment of the service once a form has stated its own: the larger of the two
 abbrev pub later_of : ℕ → Option Moment → ℕ
 later_of now None = now
-later_of now (Some told) = max now told.0
+later_of now (Some stated) = max now stated.0
 
 -- a request with a form tells its moment and asks for its call
 pub record AsksFor (h : History) (now : ℕ) (request : HttpRequest) (call : Call) (at : ℕ) : Type 0 where
   pub form : Form
   pub has : HasForm h request form
   pub is_call : form.call ≡ call
-  pub told : at ≡ later_of now form.told
+  pub stated : at ≡ later_of now form.stated
 
 -- a request without one: rule 20
 abbrev pub not_yet : Refusal
@@ -62,12 +63,6 @@ Demands h now request (Err refusal) at = HasNoForm h request × (refusal ≡ not
 -- zones are not read yet
 abbrev pub no_zones : ZoneSource
 no_zones zone = None
-
--- the body that shows a reply; creations and sweeps are the calls that are served
-abbrev pub reply_body : Reply → List ℕ
-reply_body (replies.Created arn) = codes "{\"ScheduleArn\":\"" ++ arn ++ codes "\"}"
-reply_body (replies.Settled at) = codes "{\"Moment\":" ++ decimal at.0 ++ codes "}"
-reply_body reply = []
 
 -- the response that gives an answer over a history with so many steps
 abbrev pub answer_text : Result Reply Refusal → ℕ → List ℕ
@@ -100,7 +95,7 @@ pub record IsWanting (before : History) (now : ℕ) (request : HttpRequest) (aft
   pub part : IsUntouched before now request after at ⊎ IsCutCall before now request after at
   pub text : response ≡ memory_text
 
--- one request answered: from a history and the moment told last to those at its answer. Nothing is taken from the
+-- one request answered: from a history and the moment stated last to those at its answer. Nothing is taken from the
 -- history, so that its count never falls
 pub record Answers (before : History) (now : ℕ) (request : HttpRequest) (after : History) (at : ℕ) (response : List ℕ) : Type 0 where
   pub outcome : IsServed before now request after at response ⊎ IsWanting before now request after at response

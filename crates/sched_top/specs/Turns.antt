@@ -1,13 +1,14 @@
 -- What the functions of the service pass on: the history that a machine stands for, and what a call added to it.
 use Rattle.std.specs.Prelude.{◌≡◌, ◌⊎◌, ℕ, ◌≤◌, List, [], Option, Result, Ok}
-use Rattle.sched_plain.specs.declared.call.Call.TheVariants as calls
+use Rattle.sched_calls.specs.declared.call.Call.TheVariants as calls
 use Rattle.sched_plain.specs.declared.write.Write.{Write}
-use Rattle.sched_plain.specs.declared.reply.Refusal.{Refusal}
-use Rattle.sched_plain.specs.declared.reply.Reply.{Reply}
-use Rattle.sched_plain.specs.declared.reply.Reply.TheVariants.{Settled}
+use Rattle.sched_calls.specs.declared.reply.Refusal.{Refusal}
+use Rattle.sched_calls.specs.declared.reply.Reply.{Reply}
+use Rattle.sched_calls.specs.declared.reply.Reply.TheVariants.{Settled}
 use Rattle.sched_plain.specs.History.{History, Extends, count}
-use Rattle.sched_plain.specs.Moments.{moment, moment_of, last_moment}
-use Rattle.sched_plain.specs.Serves.{End, ServesWrite, Sweeps, all_shards, IsCut}
+use Rattle.sched_plain.specs.Moments.{moment}
+use Rattle.plain_words.specs.Moments.{moment_of, last_moment}
+use Rattle.sched_calls.specs.Serves.{End, ServesWrite, Sweeps, all_shards, IsCut}
 use Rattle.book_core.specs.InUse.{calendar}
 use Rattle.book_core.specs.Form.{IsSound}
 use Rattle.target_link.specs.declared.link.Sent.{Sent}

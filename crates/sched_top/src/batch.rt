@@ -1,11 +1,10 @@
 //! The batch run: requests are read one behind the other, and each is answered before the next is read.
-ghost use Rattle.std.specs.Prelude.{◌≡◌, ◌≤◌, Err, OnOk, OnErr, IfOk};
+ghost use Rattle.std.specs.Prelude.{◌≡◌, ◌≤◌, OnOk, OnErr, IfOk};
 ghost use Rattle.sched_plain.specs.History.{History, beginning};
-ghost use Rattle.sched_plain.specs.Moments.{last_moment};
-ghost use Rattle.sched_top.specs.Batch.{booted, RunFinished, RunStopped, RunWanting, RunUnframed, RunCutOff, RunShort, unframed_text};
-ghost use Rattle.http_wire.specs.Devices.{Gets, GetsPart};
+ghost use Rattle.plain_words.specs.Moments.{last_moment};
+ghost use Rattle.sched_top.specs.Batch.{booted, RunEnds, BatchEnds, RefusalEnds, unframed_text};
 ghost use Rattle.sched_top.specs.Turns.{IsReady, Turn, IsGiven, IsPartGiven};
-ghost use Rattle.sched_plain.specs.Outside.{Rose};
+ghost use Rattle.outside.specs.Faults.{Rose};
 
 use crate::service::respond;
 use book_core::Machine;
@@ -30,13 +29,6 @@ pub(crate) enum BatchEnd {
     OutOfMemory,
     /// A request could not be framed, and that was answered.
     Unframed,
-}
-
-/// Why what is no request was not answered.
-#[derive(Clone, Copy, Debug, PartialEq, Eq)]
-enum AnswerFault {
-    SinkFailed,
-    OutOfMemory,
 }
 
 /// Answers a framed request.
@@ -77,26 +69,17 @@ fn unframed_response(alloc: Global, number: u64, steps: u64) -> Result<Vec<u8>, 
 }
 
 /// Answers what is no request, the `number`th, which ends the run.
-fn answer_unframed<K: Sink>(
-    alloc: Global,
-    number: u64,
-    steps: u64,
-    sink: &mut K,
-) -> Result<(), AnswerFault>
-    ensures answered { OnOk result (Gets (K.got sink.old) (unframed_text number steps) (K.got sink.new)) }
-    ensures cut { result ≡ Err AnswerFault.SinkFailed
-        → GetsPart (K.got sink.old) (unframed_text number steps) (K.got sink.new) }
-    ensures silent { result ≡ Err AnswerFault.OutOfMemory → K.got sink.new ≡ K.got sink.old }
-    ensures failed { result ≡ Err AnswerFault.SinkFailed
-        → Rose (K.faults sink.old) (K.faults sink.new) }
+fn answer_unframed<K: Sink>(alloc: Global, number: u64, steps: u64, sink: &mut K) -> BatchEnd
+    ensures ends { RefusalEnds result (K.got sink.old) (unframed_text number steps) (K.got sink.new) }
+    ensures failed { result ≡ BatchEnd.SinkFailed → Rose (K.faults sink.old) (K.faults sink.new) }
     ensures later { K.faults sink.old ≤ K.faults sink.new }
 {
     let Ok(text) = unframed_response(alloc, number, steps) else {
-        return Err(AnswerFault::OutOfMemory);
+        return BatchEnd::OutOfMemory;
     };
     match send_all(sink, &text) {
-        Ok(()) => Ok(()),
-        Err(_) => Err(AnswerFault::SinkFailed),
+        Ok(()) => BatchEnd::Unframed,
+        Err(_) => BatchEnd::SinkFailed,
     }
 }
 
@@ -122,42 +105,26 @@ fn run_requests<M: Machine, S: Source, K: Sink, L: Link>(
     link: &mut L,
 ) -> BatchEnd
     requires { M.stands machine.old (booted beginning) }
-    ensures finished { result ≡ BatchEnd.Finished → RunFinished beginning
-        (record { left = S.left source.old; got = K.got sink.old; handed = L.told link.old })
-        (record { left = S.left source.new; got = K.got sink.new; handed = L.told link.new }) }
-    ensures source_failed { result ≡ BatchEnd.SourceFailed → RunStopped beginning
+    ensures ends { RunEnds result beginning
         (record { left = S.left source.old; got = K.got sink.old; handed = L.told link.old })
         (record { left = S.left source.new; got = K.got sink.new; handed = L.told link.new }) }
     ensures source_rose { result ≡ BatchEnd.SourceFailed
         → Rose (S.faults source.old) (S.faults source.new) }
-    ensures sink_failed { result ≡ BatchEnd.SinkFailed → RunCutOff beginning
-        (record { left = S.left source.old; got = K.got sink.old; handed = L.told link.old })
-        (record { left = S.left source.new; got = K.got sink.new; handed = L.told link.new }) }
     ensures sink_rose { result ≡ BatchEnd.SinkFailed
         → Rose (K.faults sink.old) (K.faults sink.new) }
-    ensures unframed { result ≡ BatchEnd.Unframed → RunUnframed beginning
-        (record { left = S.left source.old; got = K.got sink.old; handed = L.told link.old })
-        (record { left = S.left source.new; got = K.got sink.new; handed = L.told link.new }) }
-    ensures memory { result ≡ BatchEnd.OutOfMemory → RunWanting beginning
-        (record { left = S.left source.old; got = K.got sink.old; handed = L.told link.old })
-        (record { left = S.left source.new; got = K.got sink.new; handed = L.told link.new }) }
 {
     let mut number = 0;
     let mut now = Moment(0);
     'requests: loop {
         match read_request(alloc, source) {
-            Ok(None) => return BatchEnd::Finished,
             Ok(Some(request)) => match answer(alloc, machine, &mut now, &request, sink, link) {
                 Ok(()) => number += 1,
                 Err(_) => return BatchEnd::SinkFailed,
             },
             Err(FrameFault::Unframed) => {
-                return match answer_unframed(alloc, number + 1, machine.length(), sink) {
-                    Ok(()) => BatchEnd::Unframed,
-                    Err(AnswerFault::SinkFailed) => BatchEnd::SinkFailed,
-                    Err(AnswerFault::OutOfMemory) => BatchEnd::OutOfMemory,
-                };
+                return answer_unframed(alloc, number + 1, machine.length(), sink);
             }
+            Ok(None) => return BatchEnd::Finished,
             Err(FrameFault::SourceFailed) => return BatchEnd::SourceFailed,
             Err(FrameFault::OutOfMemory) => return BatchEnd::OutOfMemory,
         }
@@ -173,25 +140,13 @@ pub(crate) fn run_batch<M: Machine, S: Source, K: Sink, L: Link>(
     link: &mut L,
 ) -> BatchEnd
     requires { M.stands machine.old beginning }
-    ensures finished { result ≡ BatchEnd.Finished → RunFinished beginning
-        (record { left = S.left source.old; got = K.got sink.old; handed = L.told link.old })
-        (record { left = S.left source.new; got = K.got sink.new; handed = L.told link.new }) }
-    ensures source_failed { result ≡ BatchEnd.SourceFailed → RunStopped beginning
+    ensures ends { BatchEnds result beginning
         (record { left = S.left source.old; got = K.got sink.old; handed = L.told link.old })
         (record { left = S.left source.new; got = K.got sink.new; handed = L.told link.new }) }
     ensures source_rose { result ≡ BatchEnd.SourceFailed
         → Rose (S.faults source.old) (S.faults source.new) }
-    ensures sink_failed { result ≡ BatchEnd.SinkFailed → RunCutOff beginning
-        (record { left = S.left source.old; got = K.got sink.old; handed = L.told link.old })
-        (record { left = S.left source.new; got = K.got sink.new; handed = L.told link.new }) }
     ensures sink_rose { result ≡ BatchEnd.SinkFailed
         → Rose (K.faults sink.old) (K.faults sink.new) }
-    ensures unframed { result ≡ BatchEnd.Unframed → RunUnframed beginning
-        (record { left = S.left source.old; got = K.got sink.old; handed = L.told link.old })
-        (record { left = S.left source.new; got = K.got sink.new; handed = L.told link.new }) }
-    ensures memory { result ≡ BatchEnd.OutOfMemory → RunShort beginning
-        (record { left = S.left source.old; got = K.got sink.old; handed = L.told link.old })
-        (record { left = S.left source.new; got = K.got sink.new; handed = L.told link.new }) }
 {
     match start(machine) {
         Ok(()) => run_requests(alloc, machine, source, sink, link),

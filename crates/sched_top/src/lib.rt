@@ -10,8 +10,6 @@
 mod answer;
 mod batch;
 mod service;
-#[cfg(test)]
-mod tests;
 mod words;
 
 pub use words::run_words;

@@ -2,8 +2,8 @@
 ghost use Rattle.std.specs.Prelude.{◌≡◌, ◌↔◌, ◌≤◌, ◌<◌, ◌+◌, true, codes, IsTrue, IfOk, OnOk, OnErr, Option as Perhaps, List, max, None as Absent};
 ghost use Rattle.sched_plain.specs.History.{History, ◌upon◌, count};
 ghost use Rattle.sched_plain.specs.Validity.{IsValid, IsWrite};
-ghost use Rattle.sched_plain.specs.Moments.{last_moment};
-ghost use Rattle.sched_plain.specs.Replies.{reply_to, refusal as refusal_of, named_by};
+ghost use Rattle.plain_words.specs.Moments.{last_moment};
+ghost use Rattle.sched_calls.specs.Replies.{reply_to, refusal as refusal_of, named_by};
 ghost use Rattle.book_core.specs.Form.{IsFirstForm, IsSound, is_first_write};
 ghost use Rattle.target_link.specs.declared.link.Sent.{Sent};
 ghost use Rattle.http_wire.specs.Response.{refusal_text};
@@ -16,19 +16,17 @@ use crate::answer::{conflict_text, created_text, settled_text};
 use book_core::{LegalFault, Machine};
 use http_wire::{HttpRequest, write_refusal};
 use json_api::{Form, read_form};
-use sched_plain::{Call, Moment, RowFault, Step, Why, Write};
+use sched_calls::Call;
+use sched_plain::{MOST_SCHEDULES, Moment, RowFault, Step, Why, Write};
 use std::alloc::{AllocError, Global};
 use target_link::Link;
 use timer_work::sweep_all;
 
-/// The number of the last schedule that there is room for.
-const MOST_SCHEDULES: u32 = 10_000;
-
 /// Whether there is room for one more schedule.
 fn has_room<M: Machine>(machine: &M) -> bool
-    ensures { (h : History) → M.stands machine.now h → IsSound h → (IsTrue result ↔ (schedules_there h < 10000)) }
+    ensures { (h : History) → M.stands machine.now h → IsSound h → (IsTrue result ↔ (schedules_there h < MOST_SCHEDULES)) }
 {
-    machine.named(MOST_SCHEDULES).is_none()
+    machine.named(MOST_SCHEDULES as u32).is_none()
 }
 
 /// The response to a request without a form.
@@ -123,12 +121,12 @@ fn serve_sweep<M: Machine, L: Link>(
 }
 
 /// The later of the moment before and the one that a request tells.
-fn later(now: Moment, told: Option<Moment>) -> Moment
-    ensures { result.0 ≡ later_of now.0 told }
+fn later(now: Moment, stated: Option<Moment>) -> Moment
+    ensures { result.0 ≡ later_of now.0 stated }
 {
-    match told {
+    match stated {
         None => now,
-        Some(told) => Moment(now.0.max(told.0)),
+        Some(stated) => Moment(now.0.max(stated.0)),
     }
 }
 
@@ -137,23 +135,23 @@ fn respond_to_write<M: Machine>(
     alloc: Global,
     machine: &mut M,
     now: &mut Moment,
-    told: Option<Moment>,
+    stated: Option<Moment>,
     write: Write,
 ) -> Result<Vec<u8>, AllocError>
     requires now { now.old.0 ≤ last_moment }
-    requires first { IsServedForm (record { told = told; call = Call.Write write }) }
+    requires first { IsServedForm (record { stated = stated; call = Call.Write write }) }
     ensures ok { IfOk result (λ text. (h : History) (request : HttpRequest) → M.stands machine.old h → IsReady h now.old.0
-        → Asks request (record { told = told; call = Call.Write write }) → (sent : Perhaps (List Sent))
+        → Asks request (record { stated = stated; call = Call.Write write }) → (sent : Perhaps (List Sent))
         → Turn (M.stands machine.new) h now.new.0 sent sent (λ after. IsServed h now.old.0 request after now.new.0 text.items)) }
     ensures err { OnErr result ((h : History) (request : HttpRequest) → M.stands machine.old h → IsReady h now.old.0
-        → Asks request (record { told = told; call = Call.Write write }) → (sent : Perhaps (List Sent))
+        → Asks request (record { stated = stated; call = Call.Write write }) → (sent : Perhaps (List Sent))
         → Turn (M.stands machine.new) h now.new.0 sent sent (λ after. IsPart h now.old.0 request now.new.0 after)) }
     ensures late { now.new.0 ≤ last_moment }
 {
     if !has_room(machine) {
         return not_yet(alloc, machine);
     }
-    *now = later(*now, told);
+    *now = later(*now, stated);
     serve_write(alloc, machine, *now, write)
 }
 
@@ -162,20 +160,20 @@ fn respond_to_sweep<M: Machine, L: Link>(
     alloc: Global,
     machine: &mut M,
     now: &mut Moment,
-    told: Option<Moment>,
+    stated: Option<Moment>,
     link: &mut L,
 ) -> Result<Vec<u8>, AllocError>
     requires now { now.old.0 ≤ last_moment }
-    requires first { IsServedForm (record { told = told; call = Call.Sweep }) }
+    requires first { IsServedForm (record { stated = stated; call = Call.Sweep }) }
     ensures ok { IfOk result (λ text. (h : History) (request : HttpRequest) → M.stands machine.old h → IsReady h now.old.0
-        → Asks request (record { told = told; call = Call.Sweep })
+        → Asks request (record { stated = stated; call = Call.Sweep })
         → Turn (M.stands machine.new) h now.new.0 (L.told link.old) (L.told link.new) (λ after. IsServed h now.old.0 request after now.new.0 text.items)) }
     ensures err { OnErr result ((h : History) (request : HttpRequest) → M.stands machine.old h → IsReady h now.old.0
-        → Asks request (record { told = told; call = Call.Sweep })
+        → Asks request (record { stated = stated; call = Call.Sweep })
         → Turn (M.stands machine.new) h now.new.0 (L.told link.old) (L.told link.new) (λ after. IsPart h now.old.0 request now.new.0 after)) }
     ensures late { now.new.0 ≤ last_moment }
 {
-    *now = later(*now, told);
+    *now = later(*now, stated);
     serve_sweep(alloc, machine, *now, link)
 }
 
@@ -197,10 +195,10 @@ fn respond_to<M: Machine, L: Link>(
         → Turn (M.stands machine.new) h now.new.0 (L.told link.old) (L.told link.new) (λ after. IsPart h now.old.0 request now.new.0 after)) }
     ensures late { now.new.0 ≤ last_moment }
 {
-    let Form { told, call } = form;
+    let Form { stated, call } = form;
     match call {
-        Call::Write(write) => respond_to_write(alloc, machine, now, told, write),
-        Call::Sweep => respond_to_sweep(alloc, machine, now, told, link),
+        Call::Write(write) => respond_to_write(alloc, machine, now, stated, write),
+        Call::Sweep => respond_to_sweep(alloc, machine, now, stated, link),
         // No form reads.
         Call::Read(_) => Err(AllocError),
     }

@@ -2,7 +2,7 @@
 ghost use Rattle.std.specs.Prelude.{◌≡◌, ◌↔◌, map, IsTrue};
 ghost use Rattle.sched_plain.specs.History.{beginning};
 ghost use Rattle.sched_top.specs.Batch.{IsBatch, is_end_status, is_exit_status, RunFinished, RunStopped, RunShort, RunUnframed, RunCutOff};
-ghost use Rattle.sched_plain.specs.Outside.{Rose};
+ghost use Rattle.outside.specs.Faults.{Rose};
 
 use crate::batch::{BatchEnd, run_batch};
 use book_core::Book;

@@ -1,5 +1,5 @@
 //! The sets that are timed, under their names.
-use sched_plain::{CronSets, DayRule};
+use expressions::{CronSets, DayRule};
 
 /// `0 9 * * ? *`
 const DAILY: CronSets = CronSets {

@@ -1,9 +1,10 @@
 //! Searches for instants in New York.
 ghost use Rattle.std.specs.Prelude.{◌≤◌};
-ghost use Rattle.sched_plain.specs.Moments.{last_moment};
+ghost use Rattle.plain_words.specs.Moments.{last_moment};
 
 use anyhow::bail;
-use sched_plain::{CronSets, Expr, LAST_MOMENT};
+use expressions::{CronSets, Expr};
+use plain_words::LAST_MOMENT;
 use std::alloc::Global;
 use zone_occ::{Zone, next_after, occurrences};
 

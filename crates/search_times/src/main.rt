@@ -11,8 +11,8 @@ mod starts;
 
 use anyhow::{Context, bail};
 use cron_search::next_civil;
+use expressions::CronSets;
 use instants::Spread;
-use sched_plain::CronSets;
 use std::alloc::Global;
 use std::env;
 

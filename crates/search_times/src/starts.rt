@@ -1,7 +1,7 @@
 //! Where the searches start, and answers as numbers.
-ghost use Rattle.cron_search.specs.Calendar.{IsCivilSecond};
+ghost use Rattle.cron_search.specs.CivilTime.{IsCivilSecond};
 
-use sched_plain::Civil;
+use expressions::Civil;
 
 /// The start of the k-th search: 28 days of 12 months of 20 years from 1970 on, at any minute.
 pub fn start(k: u32) -> Civil

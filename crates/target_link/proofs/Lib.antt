@@ -1,3 +1,3 @@
-pub mod DayLemmas
-pub mod KeywordLemmas
-pub mod VerdictLemmas
+mod DayLemmas
+mod KeywordLemmas
+mod VerdictLemmas

@@ -2,7 +2,7 @@
 use Rattle.std.proofs.Common.{◌≡◌, ℕ, List, inl, inr, sym, ap, ◌∙◌}
 use Rattle.httparse.specs.Grammar.{status_code}
 use Rattle.httparse.proofs.GrammarLemmas.{response_unique}
-use Rattle.sched_plain.specs.declared.verdict.Verdict.{Verdict}
+use Rattle.plain_words.specs.declared.verdict.Verdict.{Verdict}
 use Rattle.target_link.specs.Verdict.{SaysVerdict, verdict_of_status}
 
 pub SaysVerdict-unique : (reply : List ℕ) (v w : Verdict) (s t : ℕ) → SaysVerdict reply v s → SaysVerdict reply w t → (v ≡ w) × (s ≡ t)

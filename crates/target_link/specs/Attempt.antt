@@ -1,6 +1,6 @@
 -- The request of an attempt, byte for byte (HTTP/1.1, RFC 9112).
 use Rattle.std.specs.Prelude.{ℕ, Option, Some, None, List, [], ◌++◌, length, codes, decimal}
-use Rattle.sched_plain.specs.Ids.{id_text}
+use Rattle.plain_words.specs.Ids.{id_text}
 use Rattle.target_link.specs.declared.address.Address.{Address}
 use Rattle.target_link.specs.declared.address.Spot.{Spot}
 use Rattle.target_link.specs.declared.address.LoopHost.{LoopHost}

@@ -2,8 +2,9 @@
 -- (RFC 9112, HTTP/1.0 and HTTP/1.1).
 use Rattle.std.specs.Prelude.{◌≡◌, ℕ, ◌≤◌, ◌==◌, nat_lt, nat_le, ◌&&◌, ◌||◌, if◌then◌else◌, ◌⊎◌, List, length}
 use Rattle.httparse.specs.Grammar.{ResponseHead, ReadsResponse, status_code}
-use Rattle.sched_plain.specs.declared.verdict.Verdict.{Verdict}
-use Rattle.sched_plain.specs.declared.verdict.Verdict.TheVariants.{Done, Retry, Final}
+use Rattle.plain_words.specs.declared.verdict.Verdict.{Verdict}
+use Rattle.plain_words.specs.declared.verdict.Verdict.TheVariants.{Done, Retry, Final}
+use Rattle.target_link.specs.declared.verdict.TheConstants.{MOST_HEADERS, LEAST_STATUS}
 
 -- 200 to 299 is done; 408, 429, 500 to 599 and what is below 200 is tried again; all else is final
 abbrev pub verdict_of_status : ℕ → Verdict
@@ -16,7 +17,7 @@ verdict_of_status status =
 -- the reply begins with this whole head, of at most 64 headers and a status of 100 or more
 abbrev pub IsReadable : List ℕ → ResponseHead → Type 0
 IsReadable reply head =
-    ((rest : List ℕ) × ReadsResponse reply head rest) × (length head.fields ≤ 64) × (100 ≤ status_code head)
+    ((rest : List ℕ) × ReadsResponse reply head rest) × (length head.fields ≤ MOST_HEADERS) × (LEAST_STATUS ≤ status_code head)
 
 -- what a reply says: the verdict of its head's status and that status, or Retry and 0 where it has no readable head
 abbrev pub SaysVerdict : List ℕ → Verdict → ℕ → Type 0

@@ -2,7 +2,7 @@ ghost use Rattle.std.specs.Prelude.{◌≡◌, None, Some, Ok, IfOk, IfErr};
 ghost use Rattle.url.specs.Parser.{parse_url};
 ghost use Rattle.target_link.specs.Address.{is_plain, loop_host, target_host, target_path, target_address, target_spot};
 
-use sched_plain::{Text, TryCopy};
+use plain_words::{Text, TryCopy};
 use std::alloc::{AllocError, Global};
 use url::{ParseError, Url};
 

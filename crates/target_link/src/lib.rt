@@ -12,13 +12,11 @@ mod request;
 mod script_link;
 mod spares;
 mod tcp_link;
-#[cfg(test)]
-mod tests;
 mod time;
 mod verdict;
 
 pub use address::{Address, LoopHost, Spot, SpotFault, address_of};
-pub use link::{Answer, Link, Lost, Sent};
+pub use link::{Heard, LONGEST_REPLY, Link, Lost, Sent};
 pub use request::{BeginFacts, request_of};
 pub use script_link::ScriptLink;
 pub use tcp_link::TcpLink;

@@ -1,11 +1,14 @@
 ghost use Rattle.std.specs.Prelude.{◌≡◌, ℕ, ◌+◌, ◌<◌, ◌≤◌, length, Option, List, IfOk, OnOk, OnErr};
 ghost use Rattle.target_link.specs.declared.link.Sent.{Sent};
-ghost use Rattle.target_link.specs.Told.{with_sent, heard};
-ghost use Rattle.sched_plain.specs.Outside.{Rose};
+ghost use Rattle.target_link.specs.Told.{with_sent, heard_by};
+ghost use Rattle.outside.specs.Faults.{Rose};
 
 use crate::address::Address;
-use sched_plain::{Blob, TryCopy};
+use plain_words::{Blob, TryCopy};
 use std::alloc::AllocError;
+
+/// The most bytes of a reply that are read: a head that is longer says nothing of its attempt.
+pub const LONGEST_REPLY: usize = 65_536;
 
 /// The request went out and no reply came: whether the target received it is not known.
 #[derive(Debug, Clone, Copy, PartialEq, Eq)]
@@ -13,7 +16,7 @@ pub struct Lost;
 
 /// What a link brings back for one request.
 #[derive(Debug, Drop)]
-pub enum Answer {
+pub enum Heard {
     /// These bytes, none where the target closed the connection at once.
     Reply(Blob),
     /// Nothing: the connection failed.
@@ -27,15 +30,17 @@ pub struct Sent {
     pub to: Address,
     /// Its bytes.
     pub request: Blob,
+    /// For how many bytes of a reply there was room.
+    pub room: usize,
     /// What came back for it.
-    pub answer: Answer,
+    pub heard: Heard,
 }
 
-impl TryCopy for Answer {
-    fn copy(&self) -> Result<Answer, AllocError> {
+impl TryCopy for Heard {
+    fn copy(&self) -> Result<Heard, AllocError> {
         match self {
-            Answer::Reply(bytes) => Ok(Answer::Reply(bytes.copy()?)),
-            Answer::Loss => Ok(Answer::Loss),
+            Heard::Reply(bytes) => Ok(Heard::Reply(bytes.copy()?)),
+            Heard::Loss => Ok(Heard::Loss),
         }
     }
 }
@@ -45,7 +50,8 @@ impl TryCopy for Sent {
         Ok(Sent {
             to: self.to,
             request: self.request.copy()?,
-            answer: self.answer.copy()?,
+            room: self.room,
+            heard: self.heard.copy()?,
         })
     }
 }
@@ -76,7 +82,7 @@ pub trait Link {
         ensures used { sends_left self.old ≡ sends_left self.new + 1 }
         ensures most_bytes { most_bytes self.new ≡ most_bytes self.old }
         ensures within { IfOk result (λ n. n ≤ length reply.old) }
-        ensures told { told self.new ≡ with_sent to request.now (heard result reply.new) (told self.old) }
+        ensures told { told self.new ≡ with_sent to request.now (length reply.old) (heard_by result reply.new) (told self.old) }
         ensures count { losses self.old ≤ losses self.new }
         ensures quiet { OnOk result (losses self.new ≡ losses self.old) }
         ensures loud { OnErr result (Rose (losses self.old) (losses self.new)) };

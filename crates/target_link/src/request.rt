@@ -6,7 +6,7 @@ ghost use Rattle.target_link.specs.Known.{known};
 use crate::address::{Address, LoopHost, Spot};
 use crate::keyword::Values;
 use crate::time::time_text;
-use sched_plain::{Text, TryCopy, print_id};
+use plain_words::{LAST_MOMENT, Text, TryCopy, copy_option, print_id};
 use std::alloc::{AllocError, Global};
 
 /// What the request of an attempt says.
@@ -34,24 +34,15 @@ impl TryCopy for BeginFacts {
             instant: self.instant,
             number: self.number,
             spot: self.spot.copy()?,
-            input: copy_input(&self.input)?,
+            input: copy_option(&self.input)?,
         })
-    }
-}
-
-fn copy_input(input: &Option<Text>) -> Result<Option<Text>, AllocError>
-    ensures { IfOk result (λ copy. copy ≡ input.now) }
-{
-    match input {
-        Some(input) => Ok(Some(input.copy()?)),
-        None => Ok(None),
     }
 }
 
 /// The request of an attempt (HTTP/1.1, RFC 9112), byte for byte. Its body is the input with the keywords of the
 /// EventBridge Scheduler User Guide replaced, and empty where there is no input.
 pub fn request_of(alloc: Global, facts: &BeginFacts) -> Result<Vec<u8>, AllocError>
-    requires { facts.now.instant ≤ 7258118399 }
+    requires { facts.now.instant ≤ LAST_MOMENT }
     ensures { IfOk result (λ request. request.items ≡ request_text facts.now) }
 {
     let time = time_text(facts.instant);

@@ -1,21 +1,21 @@
 ghost use Rattle.std.specs.Prelude.{◌≡◌, ℕ, ◌+◌, ◌<◌, ◌≤◌, length, take, [], Some, IfOk, OnOk, OnErr};
-ghost use Rattle.target_link.specs.Script.{cut, next_answer, later_answers};
-ghost use Rattle.target_link.specs.Told.{with_sent, heard};
-ghost use Rattle.sched_plain.specs.Outside.{Rose};
+ghost use Rattle.target_link.specs.Script.{cut, next_heard, later_heard};
+ghost use Rattle.target_link.specs.Told.{with_sent, heard_by};
+ghost use Rattle.outside.specs.Faults.{Rose};
 
 use crate::address::Address;
-use crate::link::{Answer, Link, Lost, Sent};
+use crate::link::{Heard, Link, Lost, Sent};
 use crate::spares::Spares;
-use sched_plain::Blob;
+use plain_words::Blob;
 use std::alloc::{AllocError, Global};
 use std::collections::VecDeque;
 use std::marker::Model;
 
-/// A link in memory that gives the answers of a script, one a request, and loses what is sent after its end.
+/// A link in memory that follows a script, one part a request, and loses what is sent after its end.
 /// It tells what it was handed.
 #[derive(Debug, Drop)]
 pub struct ScriptLink {
-    script: VecDeque<Answer>,
+    script: VecDeque<Heard>,
     sent: Vec<Sent>,
     spares: Spares,
     losses: u64,
@@ -28,7 +28,7 @@ impl Model for ScriptLink {
     ghost Value = { Script };
 
     ghost view = { λ l. record {
-      answers = l.script.items;
+      to_come = l.script.items;
       sent = l.sent.items;
       sends_left = l.spares.count;
       most_bytes = l.spares.most_bytes;
@@ -39,9 +39,9 @@ impl Model for ScriptLink {
 }
 
 impl ScriptLink {
-    /// A link with these answers, the first for the first request.
-    pub fn new(alloc: Global, answers: Vec<Answer>) -> ScriptLink
-        ensures answers { result.answers ≡ answers.items }
+    /// A link that brings these back, the first for the first request.
+    pub fn new(alloc: Global, answers: Vec<Heard>) -> ScriptLink
+        ensures to_come { result.to_come ≡ answers.items }
         ensures sent { result.sent ≡ [] }
         ensures losses { result.losses ≡ 0 }
     {
@@ -68,15 +68,15 @@ impl ScriptLink {
     }
 }
 
-/// The next answer of a script, a reply cut to so many bytes.
-fn take_answer(script: &mut VecDeque<Answer>, most: usize) -> Answer
-    ensures answer { result ≡ cut most (next_answer script.old.items) }
-    ensures rest { script.new.items ≡ later_answers script.old.items }
+/// What a script gives next, a reply cut to so many bytes.
+fn take_answer(script: &mut VecDeque<Heard>, most: usize) -> Heard
+    ensures answer { result ≡ cut most (next_heard script.old.items) }
+    ensures rest { script.new.items ≡ later_heard script.old.items }
 {
     match script.pop_front() {
-        Some(Answer::Reply(bytes)) => Answer::Reply(cut_to(bytes, most)),
-        Some(Answer::Loss) => Answer::Loss,
-        None => Answer::Loss,
+        Some(Heard::Reply(bytes)) => Heard::Reply(cut_to(bytes, most)),
+        Some(Heard::Loss) => Heard::Loss,
+        None => Heard::Loss,
     }
 }
 
@@ -102,7 +102,7 @@ impl Link for ScriptLink {
         ensures most_bytes { OnOk result (self.new.most_bytes ≡ longest) }
         ensures told { self.new.sent ≡ self.old.sent }
         ensures losses { self.new.losses ≡ self.old.losses }
-        ensures answers { self.new.answers ≡ self.old.answers }
+        ensures to_come { self.new.to_come ≡ self.old.to_come }
     {
         let spares = Spares::filled(*self.sent.allocator(), sends, longest)?;
         self.sent.reserve(sends as usize)?;
@@ -110,19 +110,19 @@ impl Link for ScriptLink {
         Ok(())
     }
 
-    // The answer is the next one of the script, a reply cut to the length of `reply`.
+    // What is heard is the next part of the script, a reply cut to the length of `reply`.
     fn send(&mut self, to: Address, request: &[u8], reply: &mut [u8]) -> Result<usize, Lost>
         requires sends { 0 < self.old.sends_left }
         requires fits { length request.now ≤ self.old.most_bytes }
         ensures used { self.old.sends_left ≡ self.new.sends_left + 1 }
         ensures most_bytes { self.new.most_bytes ≡ self.old.most_bytes }
         ensures within { IfOk result (λ n. n ≤ length reply.old) }
-        ensures told { Some self.new.sent ≡ with_sent to request.now (heard result reply.new) (Some self.old.sent) }
+        ensures told { Some self.new.sent ≡ with_sent to request.now (length reply.old) (heard_by result reply.new) (Some self.old.sent) }
         ensures count { self.old.losses ≤ self.new.losses }
         ensures quiet { OnOk result (self.new.losses ≡ self.old.losses) }
         ensures loud { OnErr result (Rose self.old.losses self.new.losses) }
-        ensures answer { heard result reply.new ≡ cut (length reply.old) (next_answer self.old.answers) }
-        ensures answers { self.new.answers ≡ later_answers self.old.answers }
+        ensures gives { heard_by result reply.new ≡ cut (length reply.old) (next_heard self.old.to_come) }
+        ensures to_come { self.new.to_come ≡ later_heard self.old.to_come }
     {
         let request = self.spares.keep(request);
         let answer = take_answer(&mut self.script, reply.len());
@@ -133,24 +133,25 @@ impl Link for ScriptLink {
         self.sent.push_reserved(Sent {
             to,
             request,
-            answer,
+            room: reply.len(),
+            heard: answer,
         });
         heard
     }
 }
 
 /// Puts a reply into the front of `reply`.
-fn hand_over(answer: &Answer, reply: &mut [u8]) -> Result<usize, Lost>
+fn hand_over(answer: &Heard, reply: &mut [u8]) -> Result<usize, Lost>
     requires { cut (length reply.old) answer.now ≡ answer.now }
     ensures within { IfOk result (λ n. n ≤ length reply.old) }
-    ensures heard { heard result reply.new ≡ answer.now }
+    ensures heard { heard_by result reply.new ≡ answer.now }
 {
     match answer {
-        Answer::Reply(bytes) => {
+        Heard::Reply(bytes) => {
             let bytes = bytes.as_bytes();
             reply[..bytes.len()].copy_from_slice(bytes);
             Ok(bytes.len())
         }
-        Answer::Loss => Err(Lost),
+        Heard::Loss => Err(Lost),
     }
 }

@@ -1,6 +1,6 @@
 ghost use Rattle.std.specs.Prelude.{◌≡◌, ◌+◌, ◌<◌, ◌≤◌, length, IfOk, OnOk};
 
-use sched_plain::Blob;
+use plain_words::Blob;
 use std::alloc::{AllocError, Global};
 use std::marker::Model;
 

@@ -1,23 +1,21 @@
 ghost use Rattle.std.specs.Prelude.{◌≡◌, ◌≤◌, ℕ, None, length, IfOk};
 
 use crate::address::{Address, LoopHost};
-use crate::link::{Link, Lost};
+use crate::link::{LONGEST_REPLY, Link, Lost};
 use std::alloc::AllocError;
 use std::io::{self, ErrorKind, Read, Write};
 use std::marker::Model;
 use std::net::{IpAddr, Ipv4Addr, Ipv6Addr, Net, OpenStream, SocketAddr, TcpStream};
 use std::time::Duration;
 
-/// The most bytes of a reply that are read.
-const MOST_REPLY: usize = 65_536;
 /// The most reads of one reply: one a byte, the one that finds the end, and as many again that a signal broke off.
-const MOST_READS: usize = 131_074;
-/// How long a connect, a write and a read may take each, in seconds.
-const PATIENCE: u64 = 30;
+const MOST_READS: usize = 2 * (LONGEST_REPLY + 1);
+/// How long a connect, a write and a read may take each.
+const PATIENCE_SECONDS: u64 = 30;
 
 /// A link over TCP, a connection for each request. It connects to 127.0.0.1 or to [::1], writes the request and
-/// reads to the end of the connection or 65,536 bytes; where one of these fails, or takes more than 30 seconds,
-/// the request is lost. It tells nothing of what it sends.
+/// reads to the end of the connection or `LONGEST_REPLY` bytes; where one of these fails, or takes more than 30
+/// seconds, the request is lost. It tells nothing of what it sends.
 #[derive(Drop)]
 pub struct TcpLink<R> {
     rt: R,
@@ -86,12 +84,12 @@ impl<R: Net> Link for TcpLink<R> {
 fn exchange<R: Net>(rt: &R, to: Address, request: &[u8], reply: &mut [u8]) -> io::Result<usize>
     ensures { IfOk result (λ n. n ≤ length reply.old) }
 {
-    let patience = Duration::from_secs(PATIENCE);
+    let patience = Duration::from_secs(PATIENCE_SECONDS);
     let mut stream = TcpStream::connect_timeout(rt, &socket_address(to), patience)?;
     stream.set_write_timeout(Some(patience))?;
     stream.set_read_timeout(Some(patience))?;
     stream.write_all(request)?;
-    let most = reply.len().min(MOST_REPLY);
+    let most = reply.len().min(LONGEST_REPLY);
     read_to_end(&mut stream, &mut reply[..most])
 }
 

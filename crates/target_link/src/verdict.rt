@@ -1,10 +1,10 @@
 ghost use Rattle.std.specs.Prelude.{◌≡◌, ℕ, ◌≤◌, ◌<◌, ◌⊎◌};
-ghost use Rattle.sched_plain.specs.declared.verdict.Verdict.{Verdict};
+ghost use Rattle.plain_words.specs.declared.verdict.Verdict.{Verdict};
 ghost use Rattle.target_link.specs.Verdict.{SaysVerdict, verdict_of_status};
 
 use httparse::Status;
 use httparse::spans::{EMPTY_HEADER_SPAN, parse_response};
-use sched_plain::Verdict;
+use plain_words::Verdict;
 
 /// The most headers of a reply that is read.
 const MOST_HEADERS: usize = 64;
@@ -17,14 +17,14 @@ pub fn verdict_of(reply: &[u8]) -> (Verdict, u16)
     ensures says { SaysVerdict reply.now result.0 result.1 }
     ensures only { (verdict : Verdict) (status : ℕ) → SaysVerdict reply.now verdict status
         → (verdict ≡ result.0) × (status ≡ result.1) }
-    ensures status { (result.1 ≡ 0) ⊎ ((100 ≤ result.1) × (result.1 < 1000)) }
+    ensures status { (result.1 ≡ 0) ⊎ ((LEAST_STATUS ≤ result.1) × (result.1 < 1000)) }
 {
     read_verdict(reply)
 }
 
 fn read_verdict(reply: &[u8]) -> (Verdict, u16)
     ensures says { SaysVerdict reply.now result.0 result.1 }
-    ensures status { (result.1 ≡ 0) ⊎ ((100 ≤ result.1) × (result.1 < 1000)) }
+    ensures status { (result.1 ≡ 0) ⊎ ((LEAST_STATUS ≤ result.1) × (result.1 < 1000)) }
 {
     let mut headers = [EMPTY_HEADER_SPAN; MOST_HEADERS];
     match parse_response(reply, &mut headers) {

@@ -2,16 +2,16 @@
 use Rattle.std.proofs.Common.{◌≡◌, ℕ, Option, Some, None, List, refl, sym, subst, arith}
 use Rattle.std.specs.Option.{option_map}
 use Rattle.sched_plain.specs.declared.entry.Filed.{Filed}
-use Rattle.sched_plain.specs.declared.moment.Moment.{Moment}
+use Rattle.plain_words.specs.declared.moment.Moment.{Moment}
 use Rattle.sched_plain.specs.declared.step.Step.TheVariants as steps
-use Rattle.sched_plain.specs.declared.verdict.Verdict.{Verdict}
+use Rattle.plain_words.specs.declared.verdict.Verdict.{Verdict}
 use Rattle.sched_plain.specs.declared.work.Work.TheVariants as works
 use Rattle.sched_plain.specs.History.{History, ◌upon◌}
-use Rattle.sched_plain.specs.Ids.{shard_of}
+use Rattle.plain_words.specs.Ids.{shard_of}
 use Rattle.sched_plain.specs.Leases.{holder}
 use Rattle.sched_plain.specs.Seen.{seen}
 use Rattle.sched_plain.specs.Work.{work}
-use Rattle.sched_plain.specs.Serves.{begin_of, next_number, number_after}
+use Rattle.sched_calls.specs.Serves.{begin_of, next_number, number_after}
 use Rattle.book_core.specs.InUse.{calendar}
 use Rattle.book_core.specs.Form.{MayAdd}
 use Rattle.target_link.specs.declared.link.Sent.{Sent}
@@ -91,24 +91,6 @@ attempt_stopped Stands at shard inc instant number epoch shards h told told' ver
       went = begun Stands at shard inc instant shards h told told' verdict status fit wanted m s t;
     } in
     subst (λ (n : ℕ). P n epoch) (sym e) (subst (P (next_number h inc instant)) (sym f) here) may sent stands
-
-pub attempt_went : (Stands : History → Type 0) (at : Moment) (shard inc instant number epoch : ℕ) (shards : List ℕ) (h : History) (told told' : Option (List Sent)) (verdict : Verdict) (status : ℕ)
-    → number ≡ next_number h inc instant → epoch ≡ (holder h (shard_of inc)).epoch
-    → Fit at.0 (AtWork shard shards) h → work (seen calendar h) shard at.0 ≡ works.Begin inc instant
-    → MayAdd h (steps.Begin at inc instant number epoch)
-    → MayAdd (steps.Begin at inc instant number epoch upon h) (steps.End at inc instant number verdict status)
-    → AttemptSent (request_for h inc instant number) told told' verdict status
-    → Stands (steps.End at inc instant number verdict status upon steps.Begin at inc instant number epoch upon h)
-    → Went Stands at.0 (AtWork shard shards) h told (AtWork shard shards) told'
-attempt_went Stands at shard inc instant number epoch shards h told told' verdict status e f fit wanted may may_end sent stands =
-    let P : ℕ → ℕ → Type 0 = λ n k. MayAdd h (steps.Begin at inc instant n k)
-    → MayAdd (steps.Begin at inc instant n k upon h) (steps.End at inc instant n verdict status)
-    → AttemptSent (request_for h inc instant n) told told' verdict status
-    → Stands (steps.End at inc instant n verdict status upon steps.Begin at inc instant n k upon h)
-    → Went Stands at.0 (AtWork shard shards) h told (AtWork shard shards) told' in
-    let here : P (next_number h inc instant) (holder h (shard_of inc)).epoch = λ m n s t.
-    ended Stands at shard inc instant shards h told told' verdict status fit wanted m n s t in
-    subst (λ (n : ℕ). P n epoch) (sym e) (subst (P (next_number h inc instant)) (sym f) here) may may_end sent stands
 
 -- what sending did, of the request of the attempt
 pub sent_as : (request wanted : Option Request) (told1 told told' : Option (List Sent)) (verdict : Verdict) (status : ℕ)

@@ -1,13 +1,13 @@
 -- A shard of a sound history has little work: fewer works than the bound of the loop that does them.
-use Rattle.std.proofs.Common.{◌≡◌, ℕ, zero, suc, ◌+◌, ◌*◌, ◌<◌, ◌≤◌, Bool, true, false, Option, Some, None, List, [], ◌∷◌, length, refl, ap, sym, ◌∙◌, arith, eq-eqb}
+use Rattle.std.proofs.Common.{◌≡◌, ℕ, ◌+◌, ◌*◌, ◌<◌, ◌≤◌, Bool, true, false, Option, Some, None, List, [], ◌∷◌, length, refl, ap, sym, ◌∙◌, arith, eq-eqb}
 use Rattle.std.specs.Prelude.{◌==◌, ◌||◌, is_some, cond}
 use Rattle.std.specs.List.{filter}
 use Rattle.std.specs.Option.{option_and_then}
 use Rattle.sched_plain.specs.declared.entry.Filed.{Filed}
 use Rattle.sched_plain.specs.declared.step.Pair.{Pair}
 use Rattle.sched_plain.specs.History.{History}
-use Rattle.sched_plain.specs.Ids.{shard_of}
-use Rattle.sched_plain.specs.Lists.{nth, numbers}
+use Rattle.plain_words.specs.Ids.{shard_of}
+use Rattle.plain_words.specs.Lists.{nth, numbers}
 use Rattle.sched_plain.specs.Ledger.{ledger_of}
 use Rattle.sched_plain.specs.Entries.{entries, filed, is_paired}
 use Rattle.sched_plain.specs.Work.{act_of, of_shard}
@@ -15,7 +15,8 @@ use Rattle.book_core.specs.Form.{IsSound}
 use Rattle.book_core.specs.Births.{births}
 use Rattle.book_core.specs.Open.{if_open}
 use Rattle.book_core.specs.Questions.{first_unentered}
-use Rattle.book_core.proofs.OpenLemmas.{filed_paired}
+use Rattle.plain_words.proofs.ListLemmas.{length_numbers}
+use Rattle.sched_plain.proofs.LedgerLemmas.{filed_paired}
 use Rattle.book_core.proofs.WorkLemmas.{few_births}
 use Rattle.timer_work.specs.Loads.{sum_over, weight_of, enter_weight, weight, load}
 use Rattle.timer_work.proofs.Loads.{light}
@@ -52,15 +53,11 @@ few_passing : (test : ℕ → Bool) (xs : List ℕ) → length (filter test xs) 
 few_passing test [] = omega arith
 few_passing test (x ∷ xs) = few_case (test x) x (filter test xs) xs (few_passing test xs)
 
-many_numbers : (from n : ℕ) → length (numbers from n) ≡ n
-many_numbers from zero = refl
-many_numbers from (suc n) = ap suc (many_numbers (from + 1) n)
-
 -- and a shard too
 pub little_load : (h : History) (t shard : ℕ) → IsSound h → load h t shard < 18446744073709551615
 little_load h t shard p =
     let sums = sum_little (weight h t) (of_shard shard (length (births h))) (λ inc. little h t inc p) in
     let few = few_passing (λ inc. shard == shard_of inc) (numbers 1 (length (births h))) in
-    let many = many_numbers 1 (length (births h)) in
+    let many = length_numbers 1 (length (births h)) in
     let small = few_births h p in
     omega arith

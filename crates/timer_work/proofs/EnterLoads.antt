@@ -10,10 +10,10 @@ use Rattle.sched_plain.specs.declared.work.Work.TheVariants as works
 use Rattle.sched_plain.specs.History.{History, ◌upon◌}
 use Rattle.sched_plain.specs.Changes.{changes_of}
 use Rattle.sched_plain.specs.Rows.{rows_of}
-use Rattle.sched_plain.specs.Lists.{nth, or_else}
+use Rattle.plain_words.specs.Lists.{nth, or_else}
 use Rattle.sched_plain.specs.Ledger.{ledger_of, policy_of}
 use Rattle.sched_plain.specs.Entries.{entries, filed, filed_by, new_entry, is_paired}
-use Rattle.sched_plain.specs.Serves.{wanted}
+use Rattle.sched_calls.specs.Serves.{wanted}
 use Rattle.sched_plain.specs.Work.{act_of, of_shard}
 use Rattle.book_core.specs.declared.track.Origin.{Origin}
 use Rattle.book_core.specs.declared.work.Question.TheVariants as questions
@@ -22,15 +22,12 @@ use Rattle.book_core.specs.Births.{births, origin_of}
 use Rattle.book_core.specs.Open.{open_of, if_open, occurrence_of}
 use Rattle.book_core.specs.Questions.{inc_answer, shard_answer, first_unentered, enter_answer}
 use Rattle.book_core.proofs.BirthLemmas.{AllFirst}
-use Rattle.book_core.proofs.OpenLemmas.{filed_paired}
+use Rattle.plain_words.proofs.Booleans.{or_second}
+use Rattle.sched_plain.proofs.LedgerLemmas.{filed_paired}
 use Rattle.book_core.proofs.BookLemmas.{wanted_open}
 use Rattle.timer_work.specs.Sweeping.{at_once, enter_of}
 use Rattle.timer_work.specs.Loads.{sum_over, weight_of, enter_weight, weight_by, weight, load}
 use Rattle.timer_work.proofs.Loads.{sum_less, sum_appended, light}
-
-or_same : (b a : Bool) → a ≡ true → (b || a) ≡ true
-or_same true a e = refl
-or_same false a e = e
 
 or_first : (b a : Bool) → b ≡ true → (b || a) ≡ true
 or_first true a e = refl
@@ -42,7 +39,7 @@ members_same : (t inc : ℕ) (f g : ℕ → Option Filed) (pairs : List Pair) �
 members_same t inc f g [] same = refl
 members_same t inc f g (pair ∷ pairs) same =
     let here = ap (weight_of t inc pair.instant) (same pair.instant (or_first (pair.instant == pair.instant) (is_paired pairs pair.instant) (eq-eqb pair.instant pair.instant refl))) in
-    let more = members_same t inc f g pairs (λ i e. same i (or_same (i == pair.instant) (is_paired pairs i) e)) in
+    let more = members_same t inc f g pairs (λ i e. same i (or_second (i == pair.instant) (is_paired pairs i) e)) in
     omega arith
 
 kept : (o new : Option Filed) → is_some o ≡ true → or_else o new ≡ o

@@ -7,31 +7,33 @@ use Rattle.sched_plain.specs.declared.step.Pair.{Pair}
 use Rattle.sched_plain.specs.declared.step.Step.TheVariants as steps
 use Rattle.sched_plain.specs.declared.standing.Standing.{Standing}
 use Rattle.sched_plain.specs.declared.standing.Standing.TheVariants as standings
-use Rattle.sched_plain.specs.declared.verdict.Outcome.{Outcome}
-use Rattle.sched_plain.specs.declared.verdict.Outcome.TheVariants as outcomes
-use Rattle.sched_plain.specs.declared.verdict.Reason.{Reason}
-use Rattle.sched_plain.specs.declared.verdict.Verdict.TheVariants as verdicts
+use Rattle.sched_plain.specs.declared.outcome.Outcome.{Outcome}
+use Rattle.sched_plain.specs.declared.outcome.Outcome.TheVariants as outcomes
+use Rattle.sched_plain.specs.declared.outcome.Reason.{Reason}
+use Rattle.plain_words.specs.declared.verdict.Verdict.TheVariants as verdicts
 use Rattle.sched_plain.specs.declared.work.Work.{Work}
 use Rattle.sched_plain.specs.declared.work.Work.TheVariants as works
 use Rattle.sched_plain.specs.History.{History, ◌upon◌, Extends, as_it_was, with_step}
-use Rattle.sched_plain.specs.Moments.{moment_of}
-use Rattle.sched_plain.specs.Lists.{or_else, first_answer, first_some}
+use Rattle.plain_words.specs.Moments.{moment_of}
+use Rattle.plain_words.specs.Lists.{or_else, first_answer, first_some}
 use Rattle.sched_plain.specs.Ledger.{ledger_of}
 use Rattle.sched_plain.specs.Leases.{holder}
-use Rattle.sched_plain.specs.Ids.{shard_of}
+use Rattle.plain_words.specs.Ids.{shard_of}
 use Rattle.sched_plain.specs.Entries.{filed, entries, changed_if, on_entry, with_begin, with_end, decided_as, outcome_of}
 use Rattle.sched_plain.specs.Standing.{standing_of, or_due}
 use Rattle.sched_plain.specs.Seen.{seen}
 use Rattle.sched_plain.specs.Work.{work, or_settled, act_of, wanted_by, of_shard}
-use Rattle.sched_plain.specs.Serves.{End, Works, Sweeps, settled, enters, closes, begins, swept, next_shard, taking_of, release_of, begin_of, end_of, wanted, words_left, words_of, windows_of, next_number}
+use Rattle.sched_calls.specs.Serves.{End, Works, Sweeps, settled, enters, closes, begins, swept, next_shard, taking_of, release_of, begin_of, end_of, wanted, words_left, words_of, windows_of, next_number}
 use Rattle.book_core.specs.declared.work.Question.TheVariants as questions
 use Rattle.book_core.specs.InUse.{calendar}
 use Rattle.book_core.specs.Births.{births}
 use Rattle.book_core.specs.Questions.{pair_answer, inc_answer, shard_answer, enter_answer, first_unentered}
+use Rattle.plain_words.proofs.Options.{first_case}
+use Rattle.sched_plain.proofs.HistoryLemmas.{extends_through}
 use Rattle.book_core.proofs.BirthLemmas.{AllFirst, sound_first}
 use Rattle.book_core.proofs.WorkLemmas.{work_asked}
 use Rattle.timer_work.specs.Sweeping.{NoneLive, Place, Before, AtWork, InAttempt, Unreleased, Rest, Fit, zeros, at_once, enter_of}
-use Rattle.timer_work.proofs.LeadLemmas.{extends_on, drawn_zeros, left_zeros}
+use Rattle.timer_work.proofs.LeadLemmas.{drawn_zeros, left_zeros}
 use Rattle.timer_work.proofs.FitLemmas.{none_taken, none_entered, none_closed, none_ended}
 use Rattle.timer_work.specs.Loads.{load, weight_of, act_weight}
 use Rattle.timer_work.proofs.Loads.{load_less, Drops, meant_begin, meant_close, if_there}
@@ -94,10 +96,6 @@ drops_ended true t inc instant (Some f) = drops_one t inc instant f (on_entry (w
 drops_ended false t inc instant o = drops_other t inc instant o
 
 -- what each answer is, the first one is
-first_case : {W : Type 0} (P : W → Type 0) (o rest : Option W) (w : W) → (o ≡ Some w → P w) → (rest ≡ Some w → P w) → or_else o rest ≡ Some w → P w
-first_case P None rest w f g e = g e
-first_case P (Some v) rest w f g e = f e
-
 pub first_is : {A W : Type 0} (P : W → Type 0) (question : A → Option W) (xs : List A) (w : W) → ((x : A) → question x ≡ Some w → P w) → first_answer question xs ≡ Some w → P w
 first_is P question [] w each e = cc e
 first_is P question (x ∷ xs) w each e = first_case P (question x) (first_answer question xs) w (each x) (first_is P question xs w each) e
@@ -169,7 +167,7 @@ out_enter t shard inc h first none more e =
           (subst (λ (pairs : List Pair). Works calendar t shard (steps.Enter (moment_of t) inc pairs upon h) (words_left calendar h inc t []) (m.ends ++ rest) m.worked [] rest) (sym (drawn_zeros window instants 0))
           (subst (λ (left : List ℕ). Works calendar t shard (enter_of h t inc upon h) left (m.ends ++ rest) m.worked [] rest) (sym words) (m.works rest)));
       first = m.first;
-      part = extends_on (with_step _ as_it_was) m.part;
+      part = extends_through (with_step _ as_it_was) m.part;
     }
 
 -- an attempt is begun and done
@@ -186,7 +184,7 @@ out_begin t shard inc instant h first none more e f =
       worked = m.worked;
       works = λ rest. begins {end = done} (act_work h t shard (Some (works.Begin inc instant)) first none e f) (m.works rest);
       first = m.first;
-      part = extends_on (with_step _ (with_step _ as_it_was)) m.part;
+      part = extends_through (with_step _ (with_step _ as_it_was)) m.part;
     }
 
 -- an entry is closed
@@ -203,7 +201,7 @@ out_close t shard inc instant reason h first none more e f =
       worked = m.worked;
       works = λ rest. closes (act_work h t shard (Some (works.Close inc instant reason)) first none e f) (m.works rest);
       first = m.first;
-      part = extends_on (with_step _ as_it_was) m.part;
+      part = extends_through (with_step _ as_it_was) m.part;
     }
 
 act_case : (t shard : ℕ) (h : History) → AllFirst h → NoneLive h shard → Onward t shard h → shard_answer questions.ToEnter h t shard ≡ None
@@ -250,7 +248,7 @@ sweeps_out (shard ∷ shards) t h first =
       ends = w.ends ++ later.ends;
       whole = later.whole;
       sweeps = next_shard (w.works later.ends) later.sweeps;
-      part = extends_on (with_step _ as_it_was) (extends_on w.part (extends_on (with_step _ (with_step _ as_it_was)) later.part));
+      part = extends_through (with_step _ as_it_was) (extends_through w.part (extends_through (with_step _ (with_step _ as_it_was)) later.part));
     }
 
 -- from the work of a shard on
@@ -262,7 +260,7 @@ from_work t shard shards h first none =
       ends = w.ends ++ later.ends;
       whole = later.whole;
       rest = record { worked = w.worked; words_left = []; ends_left = later.ends; works = w.works later.ends; sweeps = later.sweeps };
-      part = extends_on w.part (extends_on (with_step _ (with_step _ as_it_was)) later.part);
+      part = extends_through w.part (extends_through (with_step _ (with_step _ as_it_was)) later.part);
     }
 
 pub finishes : (t : ℕ) (p : Place) (h : History) → Fit t p h → Finish t p h
@@ -275,8 +273,8 @@ finishes t (InAttempt inc instant number shard shards) h fit =
       ends = done ∷ f.ends;
       whole = f.whole;
       rest = record { end = done; ends_left = f.ends; taken = refl; shard_left = f.rest };
-      part = extends_on (with_step _ as_it_was) f.part;
+      part = extends_through (with_step _ as_it_was) f.part;
     }
 finishes t (Unreleased shard shards) h fit =
     let s = sweeps_out shards t (release_of h t shard upon h) (sound_first h fit.sound, refl) in
-    record { ends = s.ends; whole = s.whole; rest = s.sweeps; part = extends_on (with_step _ as_it_was) s.part }
+    record { ends = s.ends; whole = s.whole; rest = s.sweeps; part = extends_through (with_step _ as_it_was) s.part }

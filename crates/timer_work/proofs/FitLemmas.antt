@@ -10,21 +10,21 @@ use Rattle.sched_plain.specs.declared.holder.Holder.{Holder}
 use Rattle.sched_plain.specs.declared.schedule.Policy.{Policy}
 use Rattle.sched_plain.specs.declared.step.Pair.{Pair}
 use Rattle.sched_plain.specs.declared.step.Step.TheVariants as steps
-use Rattle.sched_plain.specs.declared.verdict.Outcome.{Outcome}
-use Rattle.sched_plain.specs.declared.verdict.Reason.{Reason}
-use Rattle.sched_plain.specs.declared.verdict.Verdict.{Verdict}
-use Rattle.sched_plain.specs.declared.verdict.Verdict.TheVariants as verdicts
+use Rattle.sched_plain.specs.declared.outcome.Outcome.{Outcome}
+use Rattle.sched_plain.specs.declared.outcome.Reason.{Reason}
+use Rattle.plain_words.specs.declared.verdict.Verdict.{Verdict}
+use Rattle.plain_words.specs.declared.verdict.Verdict.TheVariants as verdicts
 use Rattle.sched_plain.specs.History.{History, ◌upon◌}
-use Rattle.sched_plain.specs.Ids.{shard_of}
-use Rattle.sched_plain.specs.Moments.{moment_of}
-use Rattle.sched_plain.specs.Lists.{some_pass, or_else, only_if}
+use Rattle.plain_words.specs.Ids.{shard_of}
+use Rattle.plain_words.specs.Moments.{moment_of}
+use Rattle.plain_words.specs.Lists.{some_pass, or_else, only_if}
 use Rattle.sched_plain.specs.Changes.{changes_of}
 use Rattle.sched_plain.specs.Rows.{rows_of}
 use Rattle.sched_plain.specs.Leases.{holder, is_taking, freed, leased}
 use Rattle.sched_plain.specs.Ledger.{Lost, ledger_of, policy_of}
 use Rattle.sched_plain.specs.Entries.{filed, new_entry, changed_if, on_entry, with_begin, with_end, with_loss, lost_last, decided_as, outcome_of}
 use Rattle.sched_plain.specs.Attempts.{is_live_last}
-use Rattle.sched_plain.specs.Serves.{End, taking_of, release_of}
+use Rattle.sched_calls.specs.Serves.{End, taking_of, release_of}
 use Rattle.timer_work.specs.Sweeping.{OnlyWorkerZero, NoneLive}
 
 -- the last attempt of what is filed is in the air

@@ -1,19 +1,20 @@
 -- Each step of a sweep may follow, for the values that its code found; and these are in their ranges.
-use Rattle.std.proofs.Common.{◌≡◌, ℕ, ◌+◌, ◌<◌, ◌≤◌, ◌∷◌, List, length, sym, subst, arith, ◌⊎◌, inl, inr}
-use Rattle.std.specs.List.{All}
-use Rattle.sched_plain.specs.declared.moment.Moment.{Moment}
+use Rattle.std.proofs.Common.{◌≡◌, ℕ, ◌+◌, ◌<◌, ◌≤◌, ◌∷◌, List, sym, subst, arith, ◌⊎◌, inl, inr}
+use Rattle.plain_words.specs.declared.moment.Moment.{Moment}
 use Rattle.sched_plain.specs.declared.step.Pair.{Pair}
 use Rattle.sched_plain.specs.declared.step.Step.TheVariants as steps
-use Rattle.sched_plain.specs.declared.verdict.Reason.{Reason}
-use Rattle.sched_plain.specs.declared.verdict.Verdict.{Verdict}
+use Rattle.sched_plain.specs.declared.outcome.Reason.{Reason}
+use Rattle.plain_words.specs.declared.verdict.Verdict.{Verdict}
 use Rattle.sched_plain.specs.declared.work.Work.TheVariants as works
 use Rattle.sched_plain.specs.History.{History, ◌upon◌}
-use Rattle.sched_plain.specs.Ids.{shard_of}
+use Rattle.plain_words.specs.Ids.{shard_of}
 use Rattle.sched_plain.specs.Leases.{holder}
 use Rattle.sched_plain.specs.Legal.{MayFollow}
 use Rattle.sched_plain.specs.Seen.{seen}
 use Rattle.sched_plain.specs.Work.{work}
-use Rattle.sched_plain.specs.Serves.{wanted, next_number}
+use Rattle.sched_calls.specs.Serves.{wanted, next_number}
+use Rattle.plain_words.specs.Moments.{last_moment}
+use Rattle.plain_words.specs.declared.limits.TheConstants.{LEASE_SECONDS}
 use Rattle.book_core.specs.InUse.{calendar}
 use Rattle.book_core.proofs.BirthLemmas.{sound_first}
 use Rattle.timer_work.specs.Sweeping.{Before, AtWork, Unreleased, Fit, at_once}
@@ -21,7 +22,7 @@ use Rattle.timer_work.specs.Offers.{IsWithin, IsEnterable, IsDone}
 use Rattle.timer_work.proofs.Lawful.{may_take, may_enter, may_close, may_begin, may_end, may_release}
 use Rattle.timer_work.proofs.LawfulSweeps.{sweeps_are_lawful}
 
-pub take_follows : (at : Moment) (shard epoch until : ℕ) (shards : List ℕ) (h : History) → epoch ≡ (holder h shard).epoch + 1 → until ≡ at.0 + 60
+pub take_follows : (at : Moment) (shard epoch until : ℕ) (shards : List ℕ) (h : History) → epoch ≡ (holder h shard).epoch + 1 → until ≡ at.0 + LEASE_SECONDS
     → Fit at.0 (Before (shard ∷ shards)) h → MayFollow calendar h (steps.Lease at shard 0 epoch until)
 take_follows at shard epoch until shards h e f fit =
     subst (λ (n : ℕ). MayFollow calendar h (steps.Lease at shard 0 n until)) (sym e)
@@ -55,20 +56,20 @@ end_follows at shard inc instant number epoch shards h verdict status e f fit w 
 pub enter_in_range : (t shard inc : ℕ) (shards : List ℕ) (h : History) → Fit t (AtWork shard shards) h → work (seen calendar h) shard t ≡ works.Enter inc → inc ≡ 0 → ⊥
 enter_in_range t shard inc shards h fit w e = let within : 1 ≤ inc = subst IsWithin w (sweeps_are_lawful.within t shard shards h fit) in omega (arith, within, e)
 
-outside : (inc instant : ℕ) → (1 ≤ inc) × (instant ≤ 7258118399) → (inc ≡ 0) ⊎ ((inc ≡ 0 → ⊥) × (7258118399 < instant)) → ⊥
+outside : (inc instant : ℕ) → (1 ≤ inc) × (instant ≤ last_moment) → (inc ≡ 0) ⊎ ((inc ≡ 0 → ⊥) × (last_moment < instant)) → ⊥
 outside inc instant within (inl e) = omega (arith, within.0, e)
 outside inc instant within (inr p) = omega (arith, within.1, p.1)
 
 pub begin_in_range : (t shard inc instant : ℕ) (shards : List ℕ) (h : History) → Fit t (AtWork shard shards) h → work (seen calendar h) shard t ≡ works.Begin inc instant
-    → (inc ≡ 0) ⊎ ((inc ≡ 0 → ⊥) × (7258118399 < instant)) → ⊥
+    → (inc ≡ 0) ⊎ ((inc ≡ 0 → ⊥) × (last_moment < instant)) → ⊥
 begin_in_range t shard inc instant shards h fit w = outside inc instant (subst IsWithin w (sweeps_are_lawful.within t shard shards h fit))
 
 pub close_in_range : (t shard inc instant : ℕ) (reason : Reason) (shards : List ℕ) (h : History) → Fit t (AtWork shard shards) h → work (seen calendar h) shard t ≡ works.Close inc instant reason
-    → (inc ≡ 0) ⊎ ((inc ≡ 0 → ⊥) × (7258118399 < instant)) → ⊥
+    → (inc ≡ 0) ⊎ ((inc ≡ 0 → ⊥) × (last_moment < instant)) → ⊥
 close_in_range t shard inc instant reason shards h fit w = outside inc instant (subst IsWithin w (sweeps_are_lawful.within t shard shards h fit))
 
 pub wanted_enterable : (t shard inc : ℕ) (instants : List ℕ) (shards : List ℕ) (h : History) → instants ≡ wanted calendar h inc t → Fit t (AtWork shard shards) h → work (seen calendar h) shard t ≡ works.Enter inc
-    → (1 ≤ length instants) × (length instants ≤ 256) × All (λ (i : ℕ). i ≤ 7258118399) instants
+    → IsEnterable instants
 wanted_enterable t shard inc instants shards h e fit w = subst IsEnterable (sym e) (sweeps_are_lawful.enterable t shard inc shards h fit w)
 
 pub number_in_range : (t shard inc instant : ℕ) (shards : List ℕ) (h : History) → Fit t (AtWork shard shards) h → 65535 < next_number h inc instant → ⊥

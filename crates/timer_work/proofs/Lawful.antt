@@ -10,16 +10,18 @@ use Rattle.sched_plain.specs.declared.standing.Standing.{Standing}
 use Rattle.sched_plain.specs.declared.standing.Standing.TheVariants as standings
 use Rattle.sched_plain.specs.declared.step.Pair.{Pair}
 use Rattle.sched_plain.specs.declared.step.Step.TheVariants as steps
-use Rattle.sched_plain.specs.declared.verdict.Reason.{Reason}
-use Rattle.sched_plain.specs.declared.verdict.Reason.TheVariants as reasons
-use Rattle.sched_plain.specs.declared.verdict.Verdict.{Verdict}
+use Rattle.sched_plain.specs.declared.outcome.Reason.{Reason}
+use Rattle.sched_plain.specs.declared.outcome.Reason.TheVariants as reasons
+use Rattle.plain_words.specs.declared.verdict.Verdict.{Verdict}
 use Rattle.sched_plain.specs.declared.why.Why.{Why}
 use Rattle.sched_plain.specs.declared.work.Work.{Work}
 use Rattle.sched_plain.specs.declared.work.Work.TheVariants as works
 use Rattle.sched_plain.specs.History.{History, ◌upon◌}
-use Rattle.sched_plain.specs.Ids.{shard_of}
-use Rattle.sched_plain.specs.Moments.{moment, moment_of}
-use Rattle.sched_plain.specs.Lists.{first_some, when}
+use Rattle.plain_words.specs.Ids.{shard_of}
+use Rattle.sched_plain.specs.Moments.{moment}
+use Rattle.plain_words.specs.Moments.{moment_of}
+use Rattle.plain_words.specs.declared.limits.TheConstants.{MOST_PAIRS}
+use Rattle.plain_words.specs.Lists.{first_some, when}
 use Rattle.sched_plain.specs.Changes.{changes_of}
 use Rattle.sched_plain.specs.Rows.{rows_of, content_at}
 use Rattle.sched_plain.specs.Ledger.{ledger_of}
@@ -32,11 +34,12 @@ use Rattle.sched_plain.specs.Seen.{seen}
 use Rattle.sched_plain.specs.Work.{work, or_settled, act_of, wanted_by, of_shard}
 use Rattle.sched_plain.specs.Rules.{begin_table, close_table, first_astray, first_outside, is_in_window, window_of, unless_settled, unless_exhausted}
 use Rattle.sched_plain.specs.Legal.{MayFollow}
-use Rattle.sched_plain.specs.Serves.{taking_of, release_of, begin_of, wanted, next_number, number_after}
+use Rattle.sched_calls.specs.Serves.{taking_of, release_of, begin_of, wanted, next_number, number_after}
 use Rattle.book_core.specs.declared.work.Question.TheVariants as questions
 use Rattle.book_core.specs.InUse.{calendar}
 use Rattle.book_core.specs.Births.{births}
 use Rattle.book_core.specs.Questions.{pair_answer, inc_answer, shard_answer}
+use Rattle.plain_words.proofs.Booleans.{and_false, both_itself}
 use Rattle.book_core.proofs.BirthLemmas.{AllFirst}
 use Rattle.book_core.proofs.WorkLemmas.{work_asked}
 use Rattle.timer_work.specs.Sweeping.{OnlyWorkerZero, NoneLive, at_once, enter_of}
@@ -47,10 +50,6 @@ use Rattle.timer_work.proofs.Finishing.{IsEntering, IsActing, asked_to_enter, as
 -- a moment that does not fall breaks no rule
 on_time : (last t : ℕ) (why : Why) (rest : List (Option Why)) → last ≤ t → first_some rest ≡ None → first_some (when (nat_lt t last) why ∷ rest) ≡ None
 on_time last t why rest le e = let f : nat_lt t last ≡ false = grind (arith, nat_tests) in rw f e
-
-and_false : (b : Bool) → (b && false) ≡ false
-and_false true = refl
-and_false false = refl
 
 -- worker 0 may take a shard that none but it ever took
 taking_case : (taking held taker : Bool) (one two : Why) → taking ≡ true → held ≡ false → first_some (when (taking && held) one ∷ when (not (taking || taker)) two ∷ []) ≡ None
@@ -103,7 +102,7 @@ two_none a b one two e f = rw (e, f) refl
 
 pub may_enter : (h : History) (t inc : ℕ) → moment h ≤ t → MayFollow calendar h (enter_of h t inc)
 may_enter h t inc early =
-    on_time (moment h) t _ _ early (two_none _ _ _ _ (none_astray 256 (unentered calendar h inc t)) (none_outside (content_at (rows_of (changes_of h)) inc) (wanted calendar h inc t)))
+    on_time (moment h) t _ _ early (two_none _ _ _ _ (none_astray MOST_PAIRS (unentered calendar h inc t)) (none_outside (content_at (rows_of (changes_of h)) inc) (wanted calendar h inc t)))
 
 -- the work of a shard that acts on an entry is what that entry asks for
 due_wanted : (s : Standing) (inc instant : ℕ) → wanted_by inc instant s ≡ Some (works.Begin inc instant) → s ≡ standings.Due
@@ -206,14 +205,11 @@ end_found t b None inc instant e a = cc a
 end_found t true (Some f) inc instant e a = let same : (f.entry.used + 1 == f.entry.used + 1) ≡ true = eq-eqb (f.entry.used + 1) (f.entry.used + 1) refl in rw same refl
 end_found t false (Some f) inc instant e a = cc e
 
-this_one : (inc instant : ℕ) → (inc == inc && instant == instant) ≡ true
-this_one inc instant = let a : (inc == inc) ≡ true = eq-eqb inc inc refl in let b : (instant == instant) ≡ true = eq-eqb instant instant refl in rw (a, b) refl
-
 pub may_end : (h : History) (t shard inc instant : ℕ) (verdict : Verdict) (status : ℕ) → AllFirst h → NoneLive h shard → work (seen calendar h) shard t ≡ works.Begin inc instant
     → MayFollow calendar (begin_of h t inc instant upon h) (steps.End (moment_of t) inc instant (next_number h inc instant) verdict status)
 may_end h t shard inc instant verdict status first none e =
     on_time t t _ _ (omega arith) (taker_case _ _
-    (end_found t (inc == inc && instant == instant) (filed (ledger_of h) inc instant) inc instant (this_one inc instant)
+    (end_found t (inc == inc && instant == instant) (filed (ledger_of h) inc instant) inc instant (both_itself inc instant)
     (shard_asks h t shard (works.Begin inc instant) (acts_on h t shard (works.Begin inc instant) first none tt e))))
 
 -- an exhausted entry may be closed

@@ -2,16 +2,16 @@
 use Rattle.std.proofs.Common.{◌≡◌, ℕ, ◌<◌, Option, Some, None, List, [], ◌∷◌, refl, sym, subst}
 use Rattle.sched_plain.specs.declared.step.Step.{Step}
 use Rattle.sched_plain.specs.declared.step.Step.TheVariants as steps
-use Rattle.sched_plain.specs.Moments.{moment_of}
+use Rattle.plain_words.specs.Moments.{moment_of}
 use Rattle.sched_plain.specs.declared.work.Work.{Work}
 use Rattle.sched_plain.specs.declared.work.Work.TheVariants as works
 use Rattle.sched_plain.specs.History.{History, ◌upon◌}
-use Rattle.sched_plain.specs.Lists.{first_some}
+use Rattle.plain_words.specs.Lists.{first_some}
 use Rattle.sched_plain.specs.Work.{or_settled}
 use Rattle.sched_plain.specs.Legal.{MayFollow}
 use Rattle.sched_plain.specs.Leases.{holder}
-use Rattle.sched_plain.specs.Serves.{End, Works, settled}
-use Rattle.sched_plain.specs.Serves.{enters as enters_next, closes as closes_next, begins as begins_next, completes as completes_next}
+use Rattle.sched_calls.specs.Serves.{End, Works, settled}
+use Rattle.sched_calls.specs.Serves.{enters as enters_next, closes as closes_next, begins as begins_next, completes as completes_next}
 use Rattle.book_core.specs.declared.work.Question.TheVariants as questions
 use Rattle.book_core.specs.InUse.{calendar}
 use Rattle.book_core.specs.Questions.{shard_answer}

@@ -4,21 +4,17 @@ use Rattle.std.specs.Prelude.{◌==◌, if◌then◌else◌}
 use Rattle.sched_plain.specs.declared.step.Pair.{Pair}
 use Rattle.sched_plain.specs.declared.step.Step.{Step}
 use Rattle.sched_plain.specs.declared.step.Step.TheVariants as steps
-use Rattle.sched_plain.specs.declared.verdict.Reason.{Reason}
+use Rattle.sched_plain.specs.declared.outcome.Reason.{Reason}
 use Rattle.sched_plain.specs.declared.work.Work.TheVariants as works
-use Rattle.sched_plain.specs.History.{History, ◌upon◌, Extends, as_it_was, with_step}
-use Rattle.sched_plain.specs.Moments.{moment_of}
+use Rattle.sched_plain.specs.History.{History, ◌upon◌, as_it_was, with_step}
+use Rattle.plain_words.specs.Moments.{moment_of}
 use Rattle.sched_plain.specs.Seen.{seen}
 use Rattle.sched_plain.specs.Work.{work}
-use Rattle.sched_plain.specs.Serves.{End, Works, settled, enters, closes, begins, next_shard, taking_of, release_of, begin_of, wanted, words_left, words_after, words_behind, next_word, drawn, chosen_in, next_number, words_of, windows_of, words_in, ends_in}
+use Rattle.sched_calls.specs.Serves.{End, Works, settled, enters, closes, begins, next_shard, taking_of, release_of, begin_of, wanted, words_left, words_after, words_behind, next_word, drawn, chosen_in, next_number, words_of, windows_of, words_in, ends_in}
+use Rattle.sched_plain.proofs.HistoryLemmas.{extends_through}
 use Rattle.book_core.specs.InUse.{calendar}
 use Rattle.std.proofs.Math.Nat.{zero-mod}
 use Rattle.timer_work.specs.Sweeping.{zeros, at_once, enter_of, Place, Before, AtWork, InAttempt, Unreleased, Rest, RestOfShard, Leads}
-
--- a history that extends one that extends a third extends that
-pub extends_on : {h mid after : History} → Extends h mid → Extends mid after → Extends h after
-extends_on a as_it_was = a
-extends_on a (with_step s b) = with_step s (extends_on a b)
 
 -- no part of a sweep
 pub leads_nowhere : (t : ℕ) (p : Place) (h : History) → Leads t p h p h
@@ -41,7 +37,7 @@ leads_on t p h q mid r after a b = record {
       let e : n - (a.drawn + b.drawn) ≡ (n - a.drawn) - b.drawn = omega arith in
       subst (λ (es : List End). Rest t p h (zeros n) es last) (sym (append_assoc a.ends b.ends rest))
       (a.onward n (b.ends ++ rest) last (b.onward (n - a.drawn) rest last (subst (λ (k : ℕ). Rest t r after (zeros k) rest last) e left)));
-  from = extends_on a.from b.from;
+  from = extends_through a.from b.from;
   words = let x = a.words in let y = b.words in omega arith;
   taken = let x = a.taken in let y = b.taken in let z = length-append a.ends b.ends in omega arith;
 }

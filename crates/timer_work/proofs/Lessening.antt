@@ -6,34 +6,35 @@ use Rattle.std.proofs.lemmas.Bool.{and_parts}
 use Rattle.std.proofs.lemmas.Bool.Decides.{nat_tests}
 use Rattle.std.proofs.lemmas.Nat.{pow_pos}
 use Rattle.sched_plain.specs.declared.entry.Filed.{Filed}
-use Rattle.sched_plain.specs.declared.moment.Moment.{Moment}
+use Rattle.plain_words.specs.declared.moment.Moment.{Moment}
 use Rattle.sched_plain.specs.declared.standing.Standing.TheVariants as standings
 use Rattle.sched_plain.specs.declared.step.Pair.{Pair}
 use Rattle.sched_plain.specs.declared.step.Step.TheVariants as steps
-use Rattle.sched_plain.specs.declared.verdict.Outcome.{Outcome}
-use Rattle.sched_plain.specs.declared.verdict.Outcome.TheVariants as outcomes
-use Rattle.sched_plain.specs.declared.verdict.Reason.{Reason}
-use Rattle.sched_plain.specs.declared.verdict.Reason.TheVariants as reasons
-use Rattle.sched_plain.specs.declared.verdict.Verdict.{Verdict}
-use Rattle.sched_plain.specs.declared.verdict.Verdict.TheVariants as verdicts
+use Rattle.sched_plain.specs.declared.outcome.Outcome.{Outcome}
+use Rattle.sched_plain.specs.declared.outcome.Outcome.TheVariants as outcomes
+use Rattle.sched_plain.specs.declared.outcome.Reason.{Reason}
+use Rattle.sched_plain.specs.declared.outcome.Reason.TheVariants as reasons
+use Rattle.plain_words.specs.declared.verdict.Verdict.{Verdict}
+use Rattle.plain_words.specs.declared.verdict.Verdict.TheVariants as verdicts
 use Rattle.sched_plain.specs.declared.work.Work.{Work}
 use Rattle.sched_plain.specs.declared.work.Work.TheVariants as works
 use Rattle.sched_plain.specs.History.{History, ◌upon◌}
-use Rattle.sched_plain.specs.Ids.{shard_of}
+use Rattle.plain_words.specs.Ids.{shard_of}
 use Rattle.sched_plain.specs.Leases.{holder}
 use Rattle.sched_plain.specs.Ledger.{ledger_of}
-use Rattle.sched_plain.specs.Lists.{first_some, when}
+use Rattle.plain_words.specs.Lists.{first_some, when}
 use Rattle.sched_plain.specs.Entries.{filed, changed_if, on_entry, with_begin, with_end, outcome_of}
 use Rattle.sched_plain.specs.Seen.{seen}
 use Rattle.sched_plain.specs.Standing.{delay, or_due, is_used_up, is_past_age}
 use Rattle.sched_plain.specs.Work.{work, act_of, wanted_by}
-use Rattle.sched_plain.specs.Serves.{wanted, next_number}
+use Rattle.sched_calls.specs.Serves.{wanted, next_number}
 use Rattle.book_core.specs.InUse.{calendar}
 use Rattle.book_core.specs.Form.{MayAdd}
 use Rattle.book_core.proofs.BirthLemmas.{sound_first}
 use Rattle.target_link.specs.declared.link.Sent.{Sent}
 use Rattle.timer_work.specs.Sendings.{AttemptSent, request_for}
 use Rattle.timer_work.specs.Sweeping.{AtWork, Fit, Went, at_once, enter_of}
+use Rattle.timer_work.specs.Parts.{IsNext, Does}
 use Rattle.timer_work.specs.Loads.{load, weight_of, act_weight, Lessened}
 use Rattle.timer_work.proofs.Loads.{load_less, Drops, meant_begin, meant_close}
 use Rattle.timer_work.proofs.EnterLoads.{load_enter}
@@ -164,13 +165,13 @@ one_more_worked One Two t shard worked shards h told told1 told2 w le v =
 
 -- where a call did the work that was found, it did the work that was wanted
 pub ok_lessens : {T E : Type 0} (r : Result T E) (Old New : History → Type 0) (t : ℕ) (told told' : Option (List Sent)) (next found : Work) → next ≡ found
-    → OnOk r ((h : History) (shard : ℕ) (shards : List ℕ) → Old h → Fit t (AtWork shard shards) h → work (seen calendar h) shard t ≡ found → Lessened New t shard shards h told told')
-    → OnOk r ((h : History) (shard : ℕ) (shards : List ℕ) → Old h → Fit t (AtWork shard shards) h → work (seen calendar h) shard t ≡ next → Lessened New t shard shards h told told')
-ok_lessens (Ok x) Old New t told told' next found is lessens = λ h shard shards st fit w. lessens h shard shards st fit (w ∙ is)
+    → OnOk r ((shard : ℕ) (shards : List ℕ) → Does Old New t shard shards (IsNext t shard found) told told')
+    → OnOk r ((shard : ℕ) (shards : List ℕ) → Does Old New t shard shards (IsNext t shard next) told told')
+ok_lessens (Ok x) Old New t told told' next found is lessens = λ shard shards h st fit w. lessens shard shards h st fit (w ∙ is)
 ok_lessens (Err e) Old New t told told' next found is lessens = lessens
 
 pub ok_lessens_silently : {T E : Type 0} (r : Result T E) (Old New : History → Type 0) (t : ℕ) (told : Option (List Sent)) (next found : Work) → next ≡ found
-    → OnOk r ((h : History) (shard : ℕ) (shards : List ℕ) (told : Option (List Sent)) → Old h → Fit t (AtWork shard shards) h → work (seen calendar h) shard t ≡ found → Lessened New t shard shards h told told)
-    → OnOk r ((h : History) (shard : ℕ) (shards : List ℕ) → Old h → Fit t (AtWork shard shards) h → work (seen calendar h) shard t ≡ next → Lessened New t shard shards h told told)
-ok_lessens_silently (Ok x) Old New t told next found is lessens = λ h shard shards st fit w. lessens h shard shards told st fit (w ∙ is)
+    → OnOk r ((shard : ℕ) (shards : List ℕ) (told : Option (List Sent)) → Does Old New t shard shards (IsNext t shard found) told told)
+    → OnOk r ((shard : ℕ) (shards : List ℕ) → Does Old New t shard shards (IsNext t shard next) told told)
+ok_lessens_silently (Ok x) Old New t told next found is lessens = λ shard shards h st fit w. lessens shard shards told h st fit (w ∙ is)
 ok_lessens_silently (Err e) Old New t told next found is lessens = lessens

@@ -1,17 +1,17 @@
-pub mod LeadLemmas
+mod LeadLemmas
 pub mod SendLemmas
-pub mod FitLemmas
-pub mod WentLemmas
-pub mod AttemptLemmas
-pub mod StepLemmas
-pub mod Loads
-pub mod EnterLoads
-pub mod LiveLemmas
-pub mod Finishing
-pub mod WholeLemmas
-pub mod Lawful
-pub mod Single
-pub mod LawfulSweeps
-pub mod Following
-pub mod Bounds
-pub mod Lessening
+mod FitLemmas
+mod WentLemmas
+mod AttemptLemmas
+mod StepLemmas
+mod Loads
+mod EnterLoads
+mod LiveLemmas
+mod Finishing
+mod WholeLemmas
+mod Lawful
+mod Single
+mod LawfulSweeps
+mod Following
+mod Bounds
+mod Lessening

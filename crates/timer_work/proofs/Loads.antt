@@ -6,11 +6,11 @@ use Rattle.sched_plain.specs.declared.entry.Filed.{Filed}
 use Rattle.sched_plain.specs.declared.standing.Standing.{Standing}
 use Rattle.sched_plain.specs.declared.standing.Standing.TheVariants as standings
 use Rattle.sched_plain.specs.declared.step.Pair.{Pair}
-use Rattle.sched_plain.specs.declared.verdict.Reason.{Reason}
+use Rattle.sched_plain.specs.declared.outcome.Reason.{Reason}
 use Rattle.sched_plain.specs.declared.work.Work.{Work}
 use Rattle.sched_plain.specs.declared.work.Work.TheVariants as works
 use Rattle.sched_plain.specs.History.{History}
-use Rattle.sched_plain.specs.Lists.{nth, or_else, first_answer}
+use Rattle.plain_words.specs.Lists.{nth, or_else, first_answer}
 use Rattle.sched_plain.specs.Ledger.{ledger_of}
 use Rattle.sched_plain.specs.Entries.{entries, filed}
 use Rattle.sched_plain.specs.Standing.{standing_of}

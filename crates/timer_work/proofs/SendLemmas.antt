@@ -1,20 +1,20 @@
 -- What is sent, step by step.
-use Rattle.std.proofs.Common.{◌≡◌, ℕ, ◌+◌, ◌-◌, eq-eqb, Bool, true, false, Option, Some, None, List, [], ◌∷◌, ◌++◌, length, map, refl, ap, sym, subst, ◌∙◌, append_assoc}
+use Rattle.std.proofs.Common.{◌≡◌, ℕ, ◌+◌, eq-eqb, Bool, true, false, Option, Some, None, List, [], ◌∷◌, ◌++◌, length, map, refl, ap, sym, subst, ◌∙◌, append_assoc}
 use Rattle.std.specs.Prelude.{◌==◌, ◌&&◌, if◌then◌else◌}
 use Rattle.std.specs.Option.{option_map, option_to_list}
 use Rattle.std.proofs.lemmas.List.{append-nil, map-append, length-map}
-use Rattle.sched_plain.specs.declared.moment.Moment.{Moment}
+use Rattle.plain_words.specs.declared.moment.Moment.{Moment}
 use Rattle.sched_plain.specs.declared.step.Step.TheVariants as steps
-use Rattle.sched_plain.specs.declared.verdict.Verdict.{Verdict}
-use Rattle.sched_plain.specs.Lists.{nth}
-use Rattle.book_core.proofs.ListLemmas.{nth-snoc}
+use Rattle.plain_words.specs.declared.verdict.Verdict.{Verdict}
+use Rattle.plain_words.specs.Lists.{nth}
+use Rattle.plain_words.proofs.ListLemmas.{nth_more, nth_snoc}
 use Rattle.sched_plain.specs.History.{History, beginning, ◌upon◌}
 use Rattle.target_link.specs.declared.link.Sent.{Sent}
 use Rattle.timer_work.specs.Sendings.{Request, Reported, AttemptSent, EndsAs, EndsHeard, request_for, requests_of, request_sent, sent_for}
 use Rattle.timer_work.specs.Sweeping.{Sends}
 
 -- what is told stays where nothing is sent
-told_same : (told : Option (List Sent)) → told ≡ option_map (λ (before : List Sent). before ++ []) told
+pub told_same : (told : Option (List Sent)) → told ≡ option_map (λ (before : List Sent). before ++ []) told
 told_same None = refl
 told_same (Some before) = ap Some (sym (append-nil before))
 
@@ -39,19 +39,10 @@ sends_on h mid after told told1 told2 a b = record {
   reported = λ before r. subst (Reported after) (append_assoc before a.sent b.sent) (b.reported (before ++ a.sent) (a.reported before r));
 }
 
-nth_step : {A : Type 0} (b : Bool) (y : A) (old new : Option A) (x : A) → (old ≡ Some x → new ≡ Some x) → (if b then Some y else old) ≡ Some x → (if b then Some y else new) ≡ Some x
-nth_step true y old new x f e = e
-nth_step false y old new x f e = f e
-
 either_more : {A : Type 0} (b : Bool) (one other one' other' : Option A) (x : A) → (one ≡ Some x → one' ≡ Some x) → (other ≡ Some x → other' ≡ Some x)
     → (if b then one else other) ≡ Some x → (if b then one' else other') ≡ Some x
 either_more true one other one' other' x f g e = f e
 either_more false one other one' other' x f g e = g e
-
--- what stands at a place stands there when more is behind it
-nth_more : {A : Type 0} (xs more : List A) (n : ℕ) (x : A) → nth xs n ≡ Some x → nth (xs ++ more) n ≡ Some x
-nth_more [] more n x e = cc e
-nth_more (y ∷ ys) more n x e = nth_step (n == 1) y (nth ys (n - 1)) (nth (ys ++ more) (n - 1)) x (nth_more ys more (n - 1) x) e
 
 -- what was sent for an attempt stays
 sent_more : (h : History) (before more : List Sent) (inc instant number : ℕ) (one : Sent)
@@ -104,7 +95,7 @@ begun_reported h at inc instant number epoch sent before e r = record {
 -- what was told of the request of an attempt
 abbrev sent_of : (request : Option Request) (told told' : Option (List Sent)) (verdict : Verdict) (status : ℕ) → AttemptSent request told told' verdict status → List Sent
 sent_of None told told' verdict status p = []
-sent_of (Some request) told told' verdict status p = record { to = request.to; request = request.text; answer = p.0 } ∷ []
+sent_of (Some request) told told' verdict status p = record { to = request.to; request = request.text; room = request.room; heard = p.0 } ∷ []
 
 sent_is : (request : Option Request) (told told' : Option (List Sent)) (verdict : Verdict) (status : ℕ) (p : AttemptSent request told told' verdict status)
     → map request_sent (sent_of request told told' verdict status p) ≡ option_to_list request
@@ -131,8 +122,8 @@ heard_end : (request : Option Request) (told told' : Option (List Sent)) (verdic
     → n ≡ length before + 1 → EndsAs request (nth (before ++ sent_of request told told' verdict status p) n) verdict status
 heard_end None told told' verdict status n before p e = (p.1, p.2)
 heard_end (Some request) told told' verdict status n before p e =
-    let one : Sent = record { to = request.to; request = request.text; answer = p.0 } in
-    let here : nth (before ++ one ∷ []) n ≡ Some one = nth-snoc before one n ∙ ap (λ (b : Bool). if b then Some one else nth before n) (eq-eqb n (length before + 1) e) in
+    let one : Sent = record { to = request.to; request = request.text; room = request.room; heard = p.0 } in
+    let here : nth (before ++ one ∷ []) n ≡ Some one = nth_snoc before one n ∙ ap (λ (b : Bool). if b then Some one else nth before n) (eq-eqb n (length before + 1) e) in
     subst (λ (o : Option Sent). EndsAs (Some request) o verdict status) (sym here) (refl, p.2)
 
 this_one : (inc instant number : ℕ) → (inc == inc && instant == instant && number == number) ≡ true

@@ -15,12 +15,13 @@ use Rattle.sched_plain.specs.declared.work.Work.TheVariants as works
 use Rattle.sched_plain.specs.declared.why.Why.TheVariants as whys
 use Rattle.sched_plain.specs.declared.write.Write.TheVariants as writes
 use Rattle.sched_plain.specs.History.{History, beginning, ◌upon◌}
-use Rattle.sched_plain.specs.Ids.{shard_of}
-use Rattle.sched_plain.specs.Moments.{moment, last_moment}
-use Rattle.sched_plain.specs.Lists.{nth, or_else, first_answer, numbers, only_if}
+use Rattle.plain_words.specs.Ids.{shard_of}
+use Rattle.sched_plain.specs.Moments.{moment}
+use Rattle.plain_words.specs.Moments.{last_moment}
+use Rattle.plain_words.specs.Lists.{nth, first_answer, numbers}
 use Rattle.sched_plain.specs.Changes.{changes_of}
 use Rattle.sched_plain.specs.Rows.{rows_of}
-use Rattle.sched_plain.specs.Ledger.{LedgerCall, Cancelled, Lost, ledger_of}
+use Rattle.sched_plain.specs.Ledger.{Cancelled, ledger_of}
 use Rattle.sched_plain.specs.Leases.{holder, is_taking}
 use Rattle.sched_plain.specs.Entries.{entries, filed, is_paired}
 use Rattle.sched_plain.specs.Standing.{standing_of}
@@ -28,7 +29,7 @@ use Rattle.sched_plain.specs.Marks.{unentered}
 use Rattle.sched_plain.specs.Seen.{seen}
 use Rattle.sched_plain.specs.Work.{act_of, wanted_by}
 use Rattle.sched_plain.specs.Rules.{kind_table, moment_rule, first_astray}
-use Rattle.sched_plain.specs.Serves.{wanted, next_number, number_after}
+use Rattle.sched_calls.specs.Serves.{wanted, next_number, number_after}
 use Rattle.book_core.specs.declared.track.Origin.{Origin}
 use Rattle.book_core.specs.declared.work.Question.TheVariants as questions
 use Rattle.book_core.specs.InUse.{calendar}
@@ -36,10 +37,11 @@ use Rattle.book_core.specs.Form.{IsSound}
 use Rattle.book_core.specs.Births.{Birth, births, origin_of}
 use Rattle.book_core.specs.Open.{if_open, if_covered, instant_of, occurrence_of}
 use Rattle.book_core.specs.Questions.{inc_answer, shard_answer, first_unentered, enter_answer}
-use Rattle.book_core.proofs.ListLemmas.{nth-snoc, nth-past}
+use Rattle.plain_words.proofs.ListLemmas.{all_none, nth_past, nth_snoc}
+use Rattle.plain_words.proofs.Options.{first_case, map_none}
+use Rattle.sched_plain.proofs.LedgerLemmas.{entries_lost, filed_paired}
 use Rattle.book_core.proofs.BirthLemmas.{sound_first, ended_none}
-use Rattle.book_core.proofs.RuleLemmas.{all_none, map_none}
-use Rattle.book_core.proofs.OpenLemmas.{filed_paired, unentered_open}
+use Rattle.book_core.proofs.OpenLemmas.{unentered_open}
 use Rattle.book_core.proofs.SmallLemmas.{sound_small}
 use Rattle.book_core.specs.Small.{IsSmallFiled}
 use Rattle.book_core.proofs.BookLemmas.{wanted_open}
@@ -105,12 +107,8 @@ one_if : (b : Bool) (occurrence : Option ℕ) (old new : List Pair) → OneEntry
 one_if true occurrence old new one f = f refl
 one_if false occurrence old new one f = one
 
-lost_entries : (b : Bool) (shard : Option ℕ) (at : ℕ) (calls : List LedgerCall) (inc : ℕ) → entries (only_if b (Lost shard at) ++ calls) inc ≡ entries calls inc
-lost_entries true shard at calls inc = refl
-lost_entries false shard at calls inc = refl
-
 past_birth : (all : List Birth) (inc : ℕ) → (inc == length all + 1) ≡ true → nth all inc ≡ None
-past_birth all inc e = let is : inc ≡ length all + 1 = eqb-true inc (length all + 1) e in nth-past all inc (omega arith)
+past_birth all inc e = let is : inc ≡ length all + 1 = eqb-true inc (length all + 1) e in nth_past all inc (omega arith)
 
 -- what an incarnation has entered is its one occurrence
 pub one_entry : (h : History) (inc : ℕ) → IsSound h → OneEntry (entries (ledger_of h) inc) (occurrence_at (nth (births h) inc))
@@ -120,7 +118,7 @@ one_entry (steps.Zone at name bytes upon h) inc p = cc p.1.form
 one_entry (steps.Change at (writes.CreateSchedule group name token content) upon h) inc p =
     let new : Birth = record { at = at.0; group = group; name = name; content = content } in
     let none = ended_none (rows_of (changes_of h)) group name token content in
-    subst (λ (b : Option Birth). OneEntry (entries (ledger_of (steps.Change at (writes.CreateSchedule group name token content) upon h)) inc) (occurrence_at b)) (sym (nth-snoc (births h) new inc))
+    subst (λ (b : Option Birth). OneEntry (entries (ledger_of (steps.Change at (writes.CreateSchedule group name token content) upon h)) inc) (occurrence_at b)) (sym (nth_snoc (births h) new inc))
     (subst (λ (incs : List ℕ). OneEntry (entries (map Cancelled incs ++ ledger_of h) inc) (occurrence_at (if inc == length (births h) + 1 then Some new else nth (births h) inc))) (sym none)
     (one_born (entries (ledger_of h) inc) (inc == length (births h) + 1) new (nth (births h) inc) (one_entry h inc p.0) (past_birth (births h) inc)))
 one_entry (steps.Change at (writes.UpdateSchedule group name token content) upon h) inc p = cc p.1.form
@@ -138,17 +136,13 @@ one_entry (steps.Enter at of pairs upon h) inc p =
     one_entered at.0 (filed (ledger_of h) inc) (occurrence_at (nth (births h) inc)) (first_unentered h at.0 inc) (entries (ledger_of h) inc) pairs refl (filed_paired (ledger_of h) inc)
     (one_entry h inc p.0) (ap (first_astray pairs) (sym opened) ∙ astray))
 one_entry (steps.Lease at shard worker epoch until upon h) inc p =
-    subst (λ (ps : List Pair). OneEntry ps (occurrence_at (nth (births h) inc))) (sym (lost_entries (is_taking (holder h shard) epoch) (Some shard) at.0 (ledger_of h) inc)) (one_entry h inc p.0)
+    subst (λ (ps : List Pair). OneEntry ps (occurrence_at (nth (births h) inc))) (sym (entries_lost (is_taking (holder h shard) epoch) (Some shard) at.0 (ledger_of h) inc)) (one_entry h inc p.0)
 one_entry (steps.Release at shard worker epoch upon h) inc p = one_entry h inc p.0
 one_entry (steps.Begin at of i number epoch upon h) inc p = one_entry h inc p.0
 one_entry (steps.End at of i number verdict status upon h) inc p = one_entry h inc p.0
 one_entry (steps.Close at of i reason upon h) inc p = one_entry h inc p.0
 one_entry (steps.Complete at of upon h) inc p = cc p.1.form
 one_entry (steps.Swept at shard upon h) inc p = one_entry h inc p.0
-
-first_case : {W : Type 0} (P : W → Type 0) (o rest : Option W) (w : W) → (o ≡ Some w → P w) → (rest ≡ Some w → P w) → or_else o rest ≡ Some w → P w
-first_case P None rest w f g e = g e
-first_case P (Some v) rest w f g e = f e
 
 passing_case : {W : Type 0} (P : W → Type 0) (b : Bool) (question : ℕ → Option W) (n : ℕ) (more : List ℕ) (w : W) → (question n ≡ Some w → P w) → (first_answer question more ≡ Some w → P w)
     → first_answer question (cond b (n ∷ more) more) ≡ Some w → P w
@@ -162,7 +156,7 @@ first_number P question test from (suc n) w le each e =
     passing_case P (test from) question from (filter test (numbers (from + 1) n)) w (each from le) (first_number P question test (from + 1) n w (omega arith) each) e
 
 covered_case : (a b d : Bool) (i k : ℕ) → nat_le i last_moment ≡ d → (if a && (b && d) then Some i else None) ≡ Some k → k ≤ last_moment
-covered_case true true true i k h e = let same : i ≡ k = cc e in let le : i ≤ 7258118399 = grind (arith, nat_tests) in omega arith
+covered_case true true true i k h e = let same : i ≡ k = cc e in let le : i ≤ last_moment = grind (arith, nat_tests) in omega arith
 covered_case true true false i k h e = cc e
 covered_case true false d i k h e = cc e
 covered_case false b d i k h e = cc e
@@ -218,7 +212,7 @@ open_entered : (h : History) (t inc : ℕ) (o : Option ℕ) (w : Work) → first
 open_entered h t inc None w f e = cc e
 open_entered h t inc (Some k) w f e = let is : works.Enter inc ≡ w = cc e in subst (HasOpen h t) is (k, f)
 
-one_moment : (k : ℕ) → k ≤ 7258118399 → All (λ (i : ℕ). i ≤ 7258118399) (k ∷ [])
+one_moment : (k : ℕ) → k ≤ last_moment → All (λ (i : ℕ). i ≤ last_moment) (k ∷ [])
 one_moment k le zero d lt = le
 one_moment k le (suc n) d lt = absurd (omega arith)
 
@@ -227,7 +221,7 @@ enterable h t shard inc p e =
     let found = first_number (HasOpen h t) (inc_answer questions.ToEnter h t) (λ of. shard == shard_of of) 1 (length (births h)) (works.Enter inc) (omega arith)
     (λ of le answers. open_entered h t of (first_unentered h t of) (works.Enter inc) refl answers) e in
     let k : ℕ = found.0 in
-    let early : k ≤ 7258118399 = occurrence_moment (nth (births h) inc) k (open_occurs t (filed (ledger_of h) inc) (occurrence_at (nth (births h) inc)) k found.1).0 in
+    let early : k ≤ last_moment = occurrence_moment (nth (births h) inc) k (open_occurs t (filed (ledger_of h) inc) (occurrence_at (nth (births h) inc)) k found.1).0 in
     let wants : k ∷ [] ≡ wanted calendar h inc t = ap option_to_list (sym found.1) ∙ wanted_open h inc t (sound_first h p) in
     subst IsEnterable wants (omega arith, omega arith, one_moment k early)
 

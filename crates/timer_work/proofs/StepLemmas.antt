@@ -1,21 +1,24 @@
 -- The steps of a sweep with which nothing is sent, each as far as it brings it.
-use Rattle.std.proofs.Common.{◌≡◌, ℕ, ◌+◌, ◌≤◌, Option, List, [], ◌∷◌, ap, sym, subst, ◌∙◌, arith, length, zero, suc, ◌<◌, get_or, ◌≢◌}
+use Rattle.std.proofs.Common.{◌≡◌, ℕ, ◌+◌, ◌≤◌, Option, List, [], ◌∷◌, ap, sym, subst, ◌∙◌, arith, length, zero, suc, ◌<◌, ◌^◌, get_or, ◌≢◌}
 use Rattle.std.specs.List.{All}
 use Rattle.std.proofs.lemmas.List.{length-map}
 use Rattle.sched_plain.specs.Validity.{IsPair, IsValid}
-use Rattle.sched_plain.specs.declared.moment.Moment.{Moment}
+use Rattle.plain_words.specs.Moments.{last_moment}
+use Rattle.plain_words.specs.declared.limits.TheConstants.{LEASE_SECONDS}
+use Rattle.plain_words.specs.declared.moment.Moment.{Moment}
 use Rattle.sched_plain.specs.declared.step.Pair.{Pair}
 use Rattle.sched_plain.specs.declared.step.Step.TheVariants as steps
-use Rattle.sched_plain.specs.declared.verdict.Reason.{Reason}
+use Rattle.sched_plain.specs.declared.outcome.Reason.{Reason}
 use Rattle.sched_plain.specs.declared.work.Work.TheVariants as works
 use Rattle.sched_plain.specs.History.{History, ◌upon◌}
 use Rattle.sched_plain.specs.Leases.{holder}
 use Rattle.sched_plain.specs.Seen.{seen}
 use Rattle.sched_plain.specs.Work.{work}
-use Rattle.sched_plain.specs.Serves.{wanted, taking_of, release_of}
+use Rattle.sched_calls.specs.Serves.{taking_of, release_of}
 use Rattle.book_core.specs.InUse.{calendar}
 use Rattle.book_core.specs.Form.{MayAdd}
 use Rattle.target_link.specs.declared.link.Sent.{Sent}
+use Rattle.timer_work.specs.Offers.{IsEnterable}
 use Rattle.timer_work.specs.Sweeping.{Before, AtWork, Unreleased, Fit, Went, at_once, enter_of}
 use Rattle.timer_work.proofs.LeadLemmas.{leads_taking, leads_enter, leads_close, leads_swept, leads_release}
 use Rattle.timer_work.proofs.SendLemmas.{sends_nothing}
@@ -35,12 +38,12 @@ taking Stands at shard shards h told fit may stands = record {
 }
 
 pub taking_went : (Stands : History → Type 0) (at : Moment) (shard epoch until : ℕ) (shards : List ℕ) (h : History) (told : Option (List Sent))
-    → epoch ≡ (holder h shard).epoch + 1 → until ≡ at.0 + 60
+    → epoch ≡ (holder h shard).epoch + 1 → until ≡ at.0 + LEASE_SECONDS
     → Fit at.0 (Before (shard ∷ shards)) h → MayAdd h (steps.Lease at shard 0 epoch until) → Stands (steps.Lease at shard 0 epoch until upon h)
     → Went Stands at.0 (Before (shard ∷ shards)) h told (AtWork shard shards) told
 taking_went Stands at shard epoch until shards h told e f fit may stands =
     let P : ℕ → ℕ → Type 0 = λ n u. MayAdd h (steps.Lease at shard 0 n u) → Stands (steps.Lease at shard 0 n u upon h) → Went Stands at.0 (Before (shard ∷ shards)) h told (AtWork shard shards) told in
-    let here : P ((holder h shard).epoch + 1) (at.0 + 60) = λ m s. taking Stands at shard shards h told fit m s in
+    let here : P ((holder h shard).epoch + 1) (at.0 + LEASE_SECONDS) = λ m s. taking Stands at shard shards h told fit m s in
     subst (λ (n : ℕ). P n until) (sym e) (subst (P ((holder h shard).epoch + 1)) (sym f) here) may stands
 
 -- occurrences are entered
@@ -55,15 +58,6 @@ entered Stands at shard inc shards h told fit wants may stands = record {
   fit = record { sound = (fit.sound, may); worker_zero = fit.worker_zero; early = omega arith; at_place = none_entered h at.0 inc shard _ fit.at_place; taken = fit.taken };
   later = fit.early;
 }
-
-pub entered_went : (Stands : History → Type 0) (at : Moment) (shard inc : ℕ) (pairs : List Pair) (shards : List ℕ) (h : History) (told : Option (List Sent))
-    → pairs ≡ at_once (wanted calendar h inc at.0)
-    → Fit at.0 (AtWork shard shards) h → work (seen calendar h) shard at.0 ≡ works.Enter inc → MayAdd h (steps.Enter at inc pairs) → Stands (steps.Enter at inc pairs upon h)
-    → Went Stands at.0 (AtWork shard shards) h told (AtWork shard shards) told
-entered_went Stands at shard inc pairs shards h told e fit wants may stands =
-    let P : List Pair → Type 0 = λ ps. MayAdd h (steps.Enter at inc ps) → Stands (steps.Enter at inc ps upon h) → Went Stands at.0 (AtWork shard shards) h told (AtWork shard shards) told in
-    let here : P (at_once (wanted calendar h inc at.0)) = λ m s. entered Stands at shard inc shards h told fit wants m s in
-    subst P (sym e) here may stands
 
 -- an entry is closed
 unfoldable pub closed_went : (Stands : History → Type 0) (at : Moment) (shard inc instant : ℕ) (reason : Reason) (shards : List ℕ) (h : History) (told : Option (List Sent))
@@ -120,17 +114,17 @@ all_cons P x xs p all zero d lt = p
 all_cons P x xs p all (suc k) d lt = all k d (omega arith)
 
 -- pairs that are chosen for their own moments are valid where their instants are moments
-pairs_valid : (instants : List ℕ) → All (λ (i : ℕ). i ≤ 7258118399) instants → All IsPair (at_once instants)
+pairs_valid : (instants : List ℕ) → All (λ (i : ℕ). i ≤ last_moment) instants → All IsPair (at_once instants)
 pairs_valid [] all = λ k d lt. absurd (omega (arith, lt))
 pairs_valid (instant ∷ more) all =
-    let first : instant ≤ 7258118399 = all 0 0 (omega arith) in
+    let first : instant ≤ last_moment = all 0 0 (omega arith) in
     all_cons IsPair (record { instant = instant; chosen = instant }) (at_once more)
     (record { instant = first; early = omega arith; late = omega arith }) (pairs_valid more (λ k d lt. all (suc k) d (omega arith)))
 
 -- the Enter of instants that it may have is valid
-pub enter_valid : (at : Moment) (inc : ℕ) (pairs : List Pair) (tested used instants : List ℕ) → at.0 ≤ 7258118399 → (inc ≢ 0) → inc < 4294967296
+pub enter_valid : (at : Moment) (inc : ℕ) (pairs : List Pair) (tested used instants : List ℕ) → at.0 ≤ last_moment → (inc ≢ 0) → inc < 2 ^ 32
     → tested ≡ instants → used ≡ instants → pairs ≡ at_once used
-    → (1 ≤ length tested) × (length tested ≤ 256) × All (λ (i : ℕ). i ≤ 7258118399) tested → IsValid (steps.Enter at inc pairs)
+    → IsEnterable tested → IsValid (steps.Enter at inc pairs)
 enter_valid at inc pairs tested used instants early some fits e f is good =
     let same : used ≡ tested = f ∙ sym e in
     let many : length (at_once tested) ≡ length tested = length-map {B = Pair} tested (λ (instant : ℕ). record { instant = instant; chosen = instant }) in

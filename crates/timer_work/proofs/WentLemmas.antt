@@ -5,10 +5,8 @@ use Rattle.sched_plain.specs.declared.step.Step.{Step}
 use Rattle.sched_plain.specs.History.{History, ◌upon◌}
 use Rattle.sched_plain.specs.Moments.{moment, at_of}
 use Rattle.sched_plain.specs.declared.work.Work.{Work}
-use Rattle.sched_plain.specs.Seen.{seen}
-use Rattle.sched_plain.specs.Work.{work}
-use Rattle.book_core.specs.InUse.{calendar}
 use Rattle.target_link.specs.declared.link.Sent.{Sent}
+use Rattle.timer_work.specs.Parts.{Keeps, IsNext, StopsAtWork}
 use Rattle.timer_work.specs.Sweeping.{Place, AtWork, Leads, Sends, Fit, Went, Stopped}
 use Rattle.timer_work.proofs.LeadLemmas.{leads_nowhere, leads_on}
 use Rattle.timer_work.proofs.SendLemmas.{sends_nothing, sends_on}
@@ -66,8 +64,6 @@ stopped_told Stands t p h told told' e stands fit = subst (λ (o : Option (List 
 
 -- where a call failed and the history stays, the sweep stopped where it was
 pub err_stops : {T E : Type 0} (r : Result T E) (Old New : History → Type 0) (t : ℕ) (told : Option (List Sent)) (next : Work)
-    → OnErr r ((h : History) → Old h → New h)
-    → OnErr r ((h : History) (shard : ℕ) (shards : List ℕ) → Old h → Fit t (AtWork shard shards) h → work (seen calendar h) shard t ≡ next
-    → Stopped New t (AtWork shard shards) h told told)
+    → OnErr r (Keeps Old New) → OnErr r ((shard : ℕ) (shards : List ℕ) → StopsAtWork Old New t shard shards (IsNext t shard next) told told)
 err_stops (Ok x) Old New t told next stays = stays
-err_stops (Err e) Old New t told next stays = λ h shard shards st fit w. stopped_here New t (AtWork shard shards) h told (stays h st) fit
+err_stops (Err e) Old New t told next stays = λ shard shards h st fit w. stopped_here New t (AtWork shard shards) h told (stays h st) fit

@@ -1,11 +1,13 @@
 -- Whole sweeps, and those that were cut off.
 use Rattle.std.proofs.Common.{◌≡◌, ℕ, zero, suc, ◌+◌, ◌-◌, ◌<◌, ◌≤◌, Option, List, [], ◌∷◌, ◌++◌, length, Ok, refl, ap, sym, subst, arith}
 use Rattle.std.proofs.lemmas.List.{append-nil}
-use Rattle.sched_plain.specs.declared.reply.Reply.TheVariants as replies
+use Rattle.sched_calls.specs.declared.reply.Reply.TheVariants as replies
 use Rattle.sched_plain.specs.History.{History}
-use Rattle.sched_plain.specs.Moments.{moment, moment_of}
-use Rattle.sched_plain.specs.Lists.{numbers}
-use Rattle.sched_plain.specs.Serves.{End, Sweeps, swept, next_shard, all_shards}
+use Rattle.sched_plain.specs.Moments.{moment}
+use Rattle.plain_words.specs.Moments.{moment_of}
+use Rattle.plain_words.specs.Lists.{numbers}
+use Rattle.sched_calls.specs.Serves.{End, Sweeps, swept, next_shard, all_shards}
+use Rattle.plain_words.specs.declared.limits.TheConstants.{SHARDS}
 use Rattle.book_core.specs.InUse.{calendar}
 use Rattle.book_core.specs.Form.{IsSound}
 use Rattle.target_link.specs.declared.link.Sent.{Sent}
@@ -13,14 +15,14 @@ use Rattle.timer_work.specs.Sweeping.{OnlyWorkerZero, zeros, Before, Rest, Fit, 
 use Rattle.timer_work.proofs.Finishing.{Finish, finishes}
 
 -- the shards that are left
-pub all_left : numbers 0 (8 - 0) ≡ all_shards
+pub all_left : numbers 0 (SHARDS - 0) ≡ all_shards
 all_left = refl
 
-pub next_left : (n : ℕ) → n < 8 → numbers n (8 - n) ≡ n ∷ numbers (n + 1) (8 - (n + 1))
-next_left n lt = let e : 8 - n ≡ suc (8 - (n + 1)) = omega arith in ap (numbers n) e
+pub next_left : (n : ℕ) → n < SHARDS → numbers n (SHARDS - n) ≡ n ∷ numbers (n + 1) (SHARDS - (n + 1))
+next_left n lt = let e : SHARDS - n ≡ suc (SHARDS - (n + 1)) = omega arith in ap (numbers n) e
 
-pub none_left : (n : ℕ) → 8 ≤ n → numbers n (8 - n) ≡ []
-none_left n le = let e : 8 - n ≡ 0 = omega arith in ap (numbers n) e
+pub none_left : (n : ℕ) → SHARDS ≤ n → numbers n (SHARDS - n) ≡ []
+none_left n le = let e : SHARDS - n ≡ 0 = omega arith in ap (numbers n) e
 
 -- over such a history a sweep may begin
 pub fit_first : (t : ℕ) (h : History) → IsSound h → OnlyWorkerZero h → moment h ≤ t → Fit t (Before all_shards) h

@@ -3,3 +3,5 @@ pub mod Numbers
 pub mod Sweeping
 pub mod Loads
 pub mod Offers
+pub mod Parts
+pub mod Ready

@@ -6,7 +6,7 @@ use Rattle.sched_plain.specs.declared.step.Pair.{Pair}
 use Rattle.sched_plain.specs.declared.work.Work.{Work}
 use Rattle.sched_plain.specs.declared.work.Work.TheVariants as works
 use Rattle.sched_plain.specs.History.{History}
-use Rattle.sched_plain.specs.Lists.{nth}
+use Rattle.plain_words.specs.Lists.{nth}
 use Rattle.sched_plain.specs.Ledger.{ledger_of}
 use Rattle.sched_plain.specs.Entries.{entries, filed}
 use Rattle.sched_plain.specs.Work.{act_of, of_shard}

@@ -3,16 +3,17 @@ use Rattle.std.specs.Prelude.{◌≡◌, ℕ, ◌<◌, ◌≤◌, ◌^◌, ◌�
 use Rattle.std.specs.List.{All}
 use Rattle.sched_plain.specs.declared.step.Step.{Step}
 use Rattle.sched_plain.specs.declared.step.Step.TheVariants as steps
-use Rattle.sched_plain.specs.declared.verdict.Reason.{Reason}
-use Rattle.sched_plain.specs.declared.verdict.Verdict.{Verdict}
+use Rattle.sched_plain.specs.declared.outcome.Reason.{Reason}
+use Rattle.plain_words.specs.declared.verdict.Verdict.{Verdict}
 use Rattle.sched_plain.specs.declared.work.Work.{Work}
 use Rattle.sched_plain.specs.declared.work.Work.TheVariants as works
 use Rattle.sched_plain.specs.History.{History, ◌upon◌}
-use Rattle.sched_plain.specs.Moments.{moment_of, last_moment}
+use Rattle.plain_words.specs.Moments.{moment_of, last_moment}
+use Rattle.plain_words.specs.declared.limits.TheConstants.{MOST_PAIRS}
 use Rattle.sched_plain.specs.Seen.{seen}
 use Rattle.sched_plain.specs.Work.{work}
 use Rattle.sched_plain.specs.Legal.{MayFollow}
-use Rattle.sched_plain.specs.Serves.{End, Works, wanted, taking_of, release_of, begin_of, next_number}
+use Rattle.sched_calls.specs.Serves.{End, Works, wanted, taking_of, release_of, begin_of, next_number}
 use Rattle.book_core.specs.InUse.{calendar}
 use Rattle.timer_work.specs.Sweeping.{Place, Before, AtWork, Unreleased, Fit, enter_of}
 
@@ -46,7 +47,7 @@ IsWithin other = Unit {0}
 
 -- instants that an Enter may have
 abbrev pub IsEnterable : List ℕ → Type 0
-IsEnterable instants = (1 ≤ length instants) × (length instants ≤ 256) × All (λ i. i ≤ 7258118399) instants
+IsEnterable instants = (1 ≤ length instants) × (length instants ≤ MOST_PAIRS) × All (λ i. i ≤ last_moment) instants
 
 -- each step that a sweep offers may follow, and so may the End of an attempt behind its Begin; nothing else is ever
 -- to be done in a shard than what a sweep does; and what the work names, what is entered for it and the number of

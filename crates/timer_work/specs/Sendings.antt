@@ -4,27 +4,29 @@ use Rattle.std.specs.Option.{option_map, option_and_then, option_to_list}
 use Rattle.sched_plain.specs.declared.row.Row.{Row}
 use Rattle.sched_plain.specs.declared.schedule.Schedule.{Schedule}
 use Rattle.sched_plain.specs.declared.step.Step.TheVariants as steps
-use Rattle.sched_plain.specs.declared.verdict.Verdict.{Verdict}
-use Rattle.sched_plain.specs.declared.verdict.Verdict.TheVariants as verdicts
+use Rattle.plain_words.specs.declared.verdict.Verdict.{Verdict}
+use Rattle.plain_words.specs.declared.verdict.Verdict.TheVariants as verdicts
 use Rattle.sched_plain.specs.History.{History, beginning, ◌upon◌}
-use Rattle.sched_plain.specs.Lists.{nth}
+use Rattle.plain_words.specs.Lists.{nth}
 use Rattle.sched_plain.specs.Changes.{changes_of}
 use Rattle.sched_plain.specs.Rows.{rows_of, content_at}
-use Rattle.sched_plain.specs.Replies.{schedule_arn}
+use Rattle.sched_calls.specs.Replies.{schedule_arn}
 use Rattle.target_link.specs.declared.address.Address.{Address}
-use Rattle.target_link.specs.declared.link.Answer.{Answer}
-use Rattle.target_link.specs.declared.link.Answer.TheVariants as answers
+use Rattle.target_link.specs.declared.link.Heard.{Heard}
+use Rattle.target_link.specs.declared.link.Heard.TheVariants as came
 use Rattle.target_link.specs.declared.link.Sent.{Sent}
+use Rattle.target_link.specs.declared.link.TheConstants.{LONGEST_REPLY}
 use Rattle.target_link.specs.declared.request.BeginFacts.{BeginFacts}
 use Rattle.target_link.specs.Address.{target_spot}
 use Rattle.target_link.specs.Attempt.{request_text}
 use Rattle.target_link.specs.Told.{with_sent}
 use Rattle.target_link.specs.Verdict.{SaysVerdict}
 
--- a request: where it goes, and its bytes
+-- a request: where it goes, its bytes, and for how many bytes of a reply there is room
 pub record Request : Type 0 where
   pub to : Address
   pub text : List ℕ
+  pub room : ℕ
 
 -- what the request of an attempt says, by the content of its schedule: nothing where the target is no address
 abbrev pub facts_by : ℕ → ℕ → ℕ → List ℕ → Schedule → Option BeginFacts
@@ -41,9 +43,9 @@ facts_named h inc instant number row =
 abbrev pub facts_of : History → ℕ → ℕ → ℕ → Option BeginFacts
 facts_of h inc instant number = option_and_then (facts_named h inc instant number) (nth (rows_of (changes_of h)) inc)
 
--- the request that says so
+-- the request that says so, with room for the longest reply
 abbrev pub request_by : BeginFacts → Request
-request_by facts = record { to = facts.spot.address; text = request_text facts }
+request_by facts = record { to = facts.spot.address; text = request_text facts; room = LONGEST_REPLY }
 
 -- the request of an attempt
 abbrev pub request_for : History → ℕ → ℕ → ℕ → Option Request
@@ -57,7 +59,7 @@ requests_of (s upon h) = requests_of h
 
 -- the request that was sent
 abbrev pub request_sent : Sent → Request
-request_sent one = record { to = one.to; text = one.request }
+request_sent one = record { to = one.to; text = one.request; room = one.room }
 
 -- what was sent for an attempt that has a request: it stands at the place of that request
 abbrev pub sent_for : History → List Sent → ℕ → ℕ → ℕ → Option Sent
@@ -67,15 +69,15 @@ sent_for (steps.Begin at of i n epoch upon h) sent inc instant number =
 sent_for (s upon h) sent inc instant number = sent_for h sent inc instant number
 
 -- what came back says this verdict and status: Retry and 0 where nothing did
-abbrev pub AnswerSays : Answer → Verdict → ℕ → Type 0
-AnswerSays (answers.Reply bytes) verdict status = SaysVerdict bytes verdict status
-AnswerSays answers.Loss verdict status = (verdict ≡ verdicts.Retry) × (status ≡ 0)
+abbrev pub HeardSays : Heard → Verdict → ℕ → Type 0
+HeardSays (came.Reply bytes) verdict status = SaysVerdict bytes verdict status
+HeardSays came.Loss verdict status = (verdict ≡ verdicts.Retry) × (status ≡ 0)
 
 -- an attempt with this request ends as what came back for it says, and with Retry and 0 where nothing is sent
 abbrev pub EndsAs : Option Request → Option Sent → Verdict → ℕ → Type 0
 EndsAs None sent verdict status = (verdict ≡ verdicts.Retry) × (status ≡ 0)
 EndsAs (Some request) None verdict status = ⊥
-EndsAs (Some request) (Some one) verdict status = (request_sent one ≡ request) × AnswerSays one.answer verdict status
+EndsAs (Some request) (Some one) verdict status = (request_sent one ≡ request) × HeardSays one.heard verdict status
 
 -- each attempt of a history that ended did so as what came back for it says
 abbrev pub EndsHeard : History → List Sent → Type 0
@@ -84,8 +86,8 @@ EndsHeard (steps.End at inc instant number verdict status upon h) sent =
     EndsHeard h sent × EndsAs (request_for h inc instant number) (sent_for h sent inc instant number) verdict status
 EndsHeard (s upon h) sent = EndsHeard h sent
 
--- what a link was handed is the requests of the attempts, in order and each once, and the attempts ended as what
--- came back for them says
+-- what a link was handed is the requests of the attempts, in order, each once and with room for the longest reply,
+-- and the attempts ended as what came back for them says
 pub record Reported (h : History) (sent : List Sent) : Type 0 where
   pub requests : map request_sent sent ≡ requests_of h
   pub heard : EndsHeard h sent
@@ -95,4 +97,4 @@ pub record Reported (h : History) (sent : List Sent) : Type 0 where
 abbrev pub AttemptSent : Option Request → Option (List Sent) → Option (List Sent) → Verdict → ℕ → Type 0
 AttemptSent None told told' verdict status = (told' ≡ told) × (verdict ≡ verdicts.Retry) × (status ≡ 0)
 AttemptSent (Some request) told told' verdict status =
-    (answer : Answer) × (told' ≡ with_sent request.to request.text answer told) × AnswerSays answer verdict status
+    (answer : Heard) × (told' ≡ with_sent request.to request.text request.room answer told) × HeardSays answer verdict status

@@ -1,19 +1,20 @@
 -- A sweep by worker 0 over a machine and a link: where it stands, what is left of it, and what it did.
 use Rattle.std.specs.Prelude.{◌≡◌, ℕ, zero, suc, ◌+◌, ◌-◌, ◌<◌, ◌≤◌, false, Option, None, List, [], ◌∷◌, ◌++◌, map, length}
 use Rattle.std.specs.Option.{option_map}
-use Rattle.sched_plain.specs.declared.call.Call.TheVariants as calls
+use Rattle.sched_calls.specs.declared.call.Call.TheVariants as calls
 use Rattle.sched_plain.specs.declared.step.Pair.{Pair}
 use Rattle.sched_plain.specs.declared.step.Step.{Step}
 use Rattle.sched_plain.specs.declared.step.Step.TheVariants as steps
 use Rattle.sched_plain.specs.History.{History, ◌upon◌, Extends}
-use Rattle.sched_plain.specs.Ids.{shard_of}
-use Rattle.sched_plain.specs.Moments.{moment, moment_of}
-use Rattle.sched_plain.specs.Lists.{some_pass}
+use Rattle.plain_words.specs.Ids.{shard_of}
+use Rattle.sched_plain.specs.Moments.{moment}
+use Rattle.plain_words.specs.Moments.{moment_of}
+use Rattle.plain_words.specs.Lists.{some_pass}
 use Rattle.sched_plain.specs.Leases.{holder}
 use Rattle.sched_plain.specs.Ledger.{ledger_of}
 use Rattle.sched_plain.specs.Entries.{filed}
 use Rattle.sched_plain.specs.Attempts.{is_live_last}
-use Rattle.sched_plain.specs.Serves.{wanted, End, Works, Sweeps, release_of, all_shards, words_in, ends_in, IsCut}
+use Rattle.sched_calls.specs.Serves.{wanted, End, Works, Sweeps, release_of, all_shards, words_in, ends_in, IsCut}
 use Rattle.book_core.specs.InUse.{calendar}
 use Rattle.book_core.specs.Form.{IsSound}
 use Rattle.target_link.specs.declared.link.Sent.{Sent}

@@ -4,10 +4,6 @@
 //! memory is wanted, which front of these steps it added. `sweeps_are_lawful` is a law of sweeps.
 #![tactic(auto)]
 
-mod arn;
 mod sweep;
-#[cfg(test)]
-mod tests;
 
-pub use arn::arn_of;
 pub use sweep::{sweep_all, sweeps_are_lawful};

@@ -5,9 +5,10 @@
 ghost use Rattle.std.specs.Prelude.{◌≡◌, ◌≤◌, [], Err, OnOk, OnErr};
 ghost use Rattle.sched_plain.specs.History.{History};
 ghost use Rattle.sched_plain.specs.Moments.{moment};
-ghost use Rattle.sched_plain.specs.Serves.{all_shards};
+ghost use Rattle.sched_calls.specs.Serves.{all_shards};
 ghost use Rattle.book_core.specs.Form.{IsSound};
-ghost use Rattle.timer_work.specs.Sweeping.{OnlyWorkerZero, Before, Fit, Went, Stopped, Swept, SweepCut};
+ghost use Rattle.timer_work.specs.Sweeping.{OnlyWorkerZero, Before, Swept, SweepCut};
+ghost use Rattle.timer_work.specs.Parts.{Goes, Stops, Never};
 
 mod attempt;
 mod entry;
@@ -20,7 +21,7 @@ use crate::sweep::shard::sweep_shard;
 use crate::sweep::steps::Stop;
 use book_core::Machine;
 pub use law::sweeps_are_lawful;
-use sched_plain::{Moment, SHARDS};
+use sched_plain::{LAST_MOMENT, Moment, SHARDS};
 use std::alloc::{AllocError, Global};
 use target_link::Link;
 
@@ -31,12 +32,10 @@ fn sweep_shards<M: Machine, L: Link>(
     at: Moment,
     link: &mut L,
 ) -> Result<(), Stop>
-    requires { at.0 ≤ 7258118399 }
-    ensures swept { OnOk result ((h : History) → M.stands machine.old h → Fit at.0 (Before all_shards) h
-        → Went (M.stands machine.new) at.0 (Before all_shards) h (L.told link.old) (Before []) (L.told link.new)) }
-    ensures stopped { OnErr result ((h : History) → M.stands machine.old h → Fit at.0 (Before all_shards) h
-        → Stopped (M.stands machine.new) at.0 (Before all_shards) h (L.told link.old) (L.told link.new)) }
-    ensures unsound { result ≡ Err Stop.Unsound → (h : History) → M.stands machine.old h → Fit at.0 (Before all_shards) h → ⊥ }
+    requires { at.0 ≤ LAST_MOMENT }
+    ensures swept { OnOk result (Goes (M.stands machine.old) (M.stands machine.new) at.0 (Before all_shards) (L.told link.old) (Before []) (L.told link.new)) }
+    ensures stopped { OnErr result (Stops (M.stands machine.old) (M.stands machine.new) at.0 (Before all_shards) (L.told link.old) (L.told link.new)) }
+    ensures unsound { result ≡ Err Stop.Unsound → Never (M.stands machine.old) at.0 (Before all_shards) }
     ensures losses { L.losses link.old ≤ L.losses link.new }
 {
     'sweeping: for shard in 0..SHARDS {
@@ -55,7 +54,7 @@ pub fn sweep_all<M: Machine, L: Link>(
     at: Moment,
     link: &mut L,
 ) -> Result<(), AllocError>
-    requires { at.0 ≤ 7258118399 }
+    requires { at.0 ≤ LAST_MOMENT }
     ensures swept { OnOk result ((h : History) → M.stands machine.old h → IsSound h → OnlyWorkerZero h → moment h ≤ at.0
         → Swept (M.stands machine.new) at.0 h (L.told link.old) (L.told link.new)) }
     ensures cut { OnErr result ((h : History) → M.stands machine.old h → IsSound h → OnlyWorkerZero h → moment h ≤ at.0

@@ -27,7 +27,7 @@ use Rattle.jiff_tz.specs.declared.info.OffsetInfo.{OffsetInfo}
 use Rattle.jiff_tz.specs.declared.posix.Dst.{Dst}
 use Rattle.jiff_tz.specs.declared.posix.TimeZone.{TimeZone as Rule}
 use Rattle.jiff_tz.specs.declared.tzif.Tzif.{Tzif}
-use Rattle.sched_plain.specs.Lists.{same_text}
+use Rattle.plain_words.specs.Lists.{same_text}
 use Rattle.zone_occ.specs.Sides.{last_row}
 use Rattle.zone_occ.specs.Agreement.{utc_window, type_at, same_flag, same_type, agrees_with, agrees_with_rows, agrees}
 use Rattle.zone_occ.specs.ZoneText.{table}

@@ -4,11 +4,12 @@ use Rattle.std.proofs.lemmas.Bool.{cases_lt}
 use Rattle.std.proofs.lemmas.List.Elements.{Contains-get_or}
 use Rattle.std.proofs.lemmas.Option.{same_Some}
 use Rattle.std.specs.List.{All, Contains}
-use Rattle.sched_plain.specs.declared.expression.Civil.{Civil}
-use Rattle.sched_plain.specs.declared.expression.CronSets.{CronSets}
-use Rattle.sched_plain.specs.Moments.{last_moment}
-use Rattle.cron_search.specs.Calendar.{civil_second}
+use Rattle.expressions.specs.declared.expression.Civil.{Civil}
+use Rattle.expressions.specs.declared.expression.CronSets.{CronSets}
+use Rattle.plain_words.specs.Moments.{last_moment}
+use Rattle.cron_search.specs.CivilTime.{civil_second}
 use Rattle.cron_search.specs.Search.{IsFirstFit}
+use Rattle.zone_occ.specs.declared.scan.TheConstants.{FARTHEST}
 use Rattle.zone_occ.specs.ZoneText.{ZoneText}
 use Rattle.zone_occ.specs.Conversion.{IsNear}
 use Rattle.zone_occ.specs.InstantFacts.{IsCronInstant}
@@ -105,12 +106,6 @@ pub record AreBefore (Has : ℕ → Type 0) (start from to max : ℕ) (moments :
   pub later : from ≤ start
   pub firsts : AreFirsts (IsEarly Has start) from to max moments
 
-pub before-none : (Has : ℕ → Type 0) (from to max : ℕ) → 1 ≤ max → AreBefore Has from from to max []
-before-none Has from to max low = record {
-  later = omega arith;
-  firsts = firsts-none (IsEarly Has from) from to max low (λ x early late high. omega (arith, early.before));
-}
-
 pub before-more : (Has : ℕ → Type 0) (start from to max moment : ℕ) (xs ys : List ℕ) → 1 ≤ max → AreBefore Has start from to max xs → IsNext Has start moment → moment ≤ complete_to max to xs → IsOffered max xs (Some moment) ys → AreBefore Has (moment + 1) from to max ys
 before-more Has start from to max moment xs ys low known next early offered =
     let later = known.later in
@@ -130,17 +125,9 @@ before-more Has start from to max moment xs ys low known next early offered =
           ]);
     }
 
-pub before-all : (Has : ℕ → Type 0) (start from to max : ℕ) (xs : List ℕ) → AreBefore Has start from to max xs → IsBare Has start (complete_to max to xs) → AreFirsts Has from to max xs
-before-all Has start from to max xs known bare =
-    firsts-as (IsEarly Has start) Has from to max xs known.firsts (λ x was. was.has)
-    (λ x has late early. elim (cases_lt x start) [
-      | inl lt ↦ record { has = has; before = lt }
-      | inr ge ↦ absurd (bare x has ge early)
-    ])
-
 -- ---- one scan of all minutes
 
-pub seen-none : (sets : CronSets) (zone : ZoneText) (cursor : Civil) (from to max : ℕ) → 1 ≤ max → IsNear zone → civil_second cursor ≡ from - 93_599 → AreFirsts (IsSeen sets zone cursor) from to max []
+pub seen-none : (sets : CronSets) (zone : ZoneText) (cursor : Civil) (from to max : ℕ) → 1 ≤ max → IsNear zone → civil_second cursor ≡ from - FARTHEST → AreFirsts (IsSeen sets zone cursor) from to max []
 seen-none sets zone cursor from to max low near start =
     firsts-none (IsSeen sets zone cursor) from to max low (λ x seen late high. none_seen sets zone cursor from x near start seen late)
 

@@ -4,16 +4,16 @@ use Rattle.std.proofs.lemmas.Bool.{and_parts, and_from}
 use Rattle.std.proofs.lemmas.Bool.Decides.{nat_tests}
 use Rattle.std.proofs.lemmas.Option.{same_Some}
 use Rattle.jiff_core.proofs.SignedLemmas.{signed_arith}
-use Rattle.sched_plain.specs.declared.expression.Civil.{Civil}
-use Rattle.sched_plain.specs.declared.expression.Expr.TheVariants.{At}
-use Rattle.sched_plain.specs.Expressions.{is_civil, civil_second}
-use Rattle.sched_plain.specs.Lists.{some_pass}
-use Rattle.cron_search.proofs.RealSeconds.{is_civil-true}
+use Rattle.expressions.specs.declared.expression.Civil.{Civil}
+use Rattle.expressions.specs.declared.expression.Expr.TheVariants.{At}
+use Rattle.expressions.specs.CivilSeconds.{is_civil, civil_second}
+use Rattle.plain_words.specs.Lists.{some_pass}
+use Rattle.expressions.proofs.RealSeconds.{is_civil-true}
 use Rattle.zone_occ.specs.ZoneText.{utc}
 use Rattle.zone_occ.specs.Sides.{sides}
 use Rattle.zone_occ.specs.Conversion.{conv}
 use Rattle.zone_occ.specs.Instants.{is_instant}
-use Rattle.zone_occ.specs.Calendar.{calendar, HasAtsInUtc, HasZones}
+use Rattle.zone_occ.specs.ZoneCalendar.{zone_calendar, HasAtsInUtc, HasZones}
 use Rattle.zone_occ.proofs.CivilSeconds.{civil_second-high}
 use Rattle.zone_occ.proofs.InstantLaws.{from_at, at_fact, at_real}
 
@@ -43,10 +43,10 @@ second_at d anchor moment test =
     let number : pos (civil_second d) -ℤ pos 0 ≡ pos moment = omega (arith, signed_arith) in
     from_at utc d anchor moment real (record { in_time = omega arith; shown = conv_utc d ∙ ap (λ x. Some x) number })
 
-pub ats_in_utc : HasAtsInUtc calendar
+pub ats_in_utc : HasAtsInUtc zone_calendar
 ats_in_utc d anchor moment =
     same_tests (is_instant (At d) utc anchor moment) (is_civil d && moment == civil_second d)
     (at_second d anchor moment) (second_at d anchor moment)
 
-pub zones : HasZones calendar
+pub zones : HasZones zone_calendar
 zones expr bytes zone anchor moment is = ap (some_pass (λ z. is_instant expr z anchor moment)) is

@@ -1,27 +1,26 @@
 -- Civil seconds of the years 1970 to 2199 and their numbers: how far they go, and that each number has one.
-use Rattle.std.proofs.Common.{◌≡◌, ℕ, ◌<◌, ◌≤◌, ℤ, pos, negsuc, ◌<ℤ◌, ◌≤ℤ◌, refl, sym, subst, ap, ◌∙◌, arith, unsigned_abs}
+use Rattle.std.proofs.Common.{◌≡◌, ℕ, ◌<◌, ◌≤◌, ℤ, pos, ◌<ℤ◌, ◌≤ℤ◌, refl, sym, subst, ap, ◌∙◌, arith, unsigned_abs}
 use Rattle.std.proofs.lemmas.Int.{by_lt_z}
 use Rattle.jiff_core.specs.Calendar.{IsCivilDate as IsJiffDate, day_count, days_from_civil, days_in_month}
 use Rattle.jiff_core.specs.declared.civil.date.Date.{Date}
 use Rattle.jiff_core.proofs.SignedLemmas.{signed_arith}
 use Rattle.jiff_core.proofs.MarchLemmas.{day_count-early}
 use Rattle.jiff_core.proofs.CalendarLemmas.{day_count-epoch, day_count-lt_year, day_count-later_year, day_count-day_of_year, days_from_civil-day_count}
-use Rattle.sched_plain.specs.Moments.{last_moment}
-use Rattle.sched_plain.specs.declared.expression.Civil.{Civil}
-use Rattle.cron_search.specs.Calendar.{IsCivilDate, IsCivilSecond, day_number, civil_second}
-use Rattle.cron_search.proofs.DayNumbers.{day_number-count}
+use Rattle.plain_words.specs.Moments.{last_moment}
+use Rattle.expressions.specs.declared.expression.Civil.{Civil}
+use Rattle.cron_search.specs.CivilTime.{IsCivilDate, IsCivilSecond, day_number, civil_second}
+use Rattle.cron_search.proofs.DayNumbers.{day_number-count, not_negative}
+use Rattle.cron_search.proofs.InTime.{library_date}
 
 -- the day count of 2200-01-01
 count_2200 : day_count (pos 2200) 1 1 ≡ 4_455_959
 count_2200 = day_count-early (pos 2200) 12199 1 1 refl (omega arith) (omega arith) (omega arith)
 
--- a day here is a day of the library's calendar
-library_date : (y m d : ℕ) → IsCivilDate y m d → IsJiffDate (pos y) m d
-library_date y m d day =
-    ((omega (arith, signed_arith), omega (arith, signed_arith)), (day.month_low, day.month_high), (day.day_low, day.day_high))
+-- the number of 2199-12-31
+abbrev pub last_day : ℕ
+last_day = 84_005
 
--- the last day is the 84,005th after the first
-day_number-high : (y m d : ℕ) → IsCivilDate y m d → day_number y m d ≤ 84_005
+day_number-high : (y m d : ℕ) → IsCivilDate y m d → day_number y m d ≤ last_day
 day_number-high y m d day =
     let before = day_count-lt_year (pos y) m d (pos 2200) 1 1 (library_date y m d day) (omega arith)
     (let high = day.to_2199 in omega (arith, signed_arith)) in
@@ -50,14 +49,10 @@ to_2199 y m d date high =
     absurd (omega (arith, count_2200, day_count-day_of_year y m d date.2.0))))
 
 -- the year of a day among those numbers
-pub year_within : (y : ℤ) (m d number : ℕ) → IsJiffDate y m d → days_from_civil y m d ≡ pos number → number ≤ 84_005 → (pos 1970 ≤ℤ y) × (y <ℤ pos 2200)
+pub year_within : (y : ℤ) (m d number : ℕ) → IsJiffDate y m d → days_from_civil y m d ≡ pos number → number ≤ last_day → (pos 1970 ≤ℤ y) × (y <ℤ pos 2200)
 year_within y m d number date is high =
     let counted = days_from_civil-day_count y m d in
     (from_1970 y m d date (omega (arith, signed_arith)), to_2199 y m d date (omega (arith, signed_arith)))
-
-not_negative : (z : ℤ) → pos 0 ≤ℤ z → z ≡ pos (unsigned_abs z)
-not_negative (pos n) h = refl
-not_negative (negsuc n) h = absurd (omega (arith, signed_arith))
 
 -- what is known of a day of the library by its number
 pub record IsNumbered (date : Date) (number year : ℕ) : Type 0 where
@@ -65,7 +60,7 @@ pub record IsNumbered (date : Date) (number year : ℕ) : Type 0 where
   pub real : IsCivilDate year date.month date.day
   pub value : day_number year date.month date.day ≡ number
 
-pub numbered : (date : Date) (number : ℕ) → days_from_civil date.year date.month date.day ≡ pos number → number ≤ 84_005 → IsNumbered date number (unsigned_abs date.year)
+pub numbered : (date : Date) (number : ℕ) → days_from_civil date.year date.month date.day ≡ pos number → number ≤ last_day → IsNumbered date number (unsigned_abs date.year)
 numbered date number is high =
     let within = year_within date.year date.month date.day number (date.year_in, date.month_in, date.day_in) is high in
     let same : date.year ≡ pos (unsigned_abs date.year) = not_negative date.year (omega (arith, signed_arith)) in

@@ -6,12 +6,13 @@ use Rattle.std.proofs.lemmas.Option.{same_Some, MatchOption-at_some}
 use Rattle.std.specs.Bool.{⊤}
 use Rattle.jiff_core.proofs.SignedLemmas.{signed_arith}
 use Rattle.jiff_core.proofs.CalendarLemmas.{days_in_month_bounds}
-use Rattle.sched_plain.specs.declared.expression.Civil.{Civil}
-use Rattle.sched_plain.specs.declared.expression.CronSets.{CronSets}
-use Rattle.sched_plain.specs.Moments.{last_moment}
-use Rattle.cron_search.specs.Calendar.{IsCivilSecond, civil_second}
+use Rattle.expressions.specs.declared.expression.Civil.{Civil}
+use Rattle.expressions.specs.declared.expression.CronSets.{CronSets}
+use Rattle.plain_words.specs.Moments.{last_moment}
+use Rattle.cron_search.specs.CivilTime.{IsCivilSecond, civil_second}
 use Rattle.cron_search.specs.Search.{IsFittingMinute, IsFirstFit, IsNoLater}
 use Rattle.cron_search.proofs.InTime.{second_key-le}
+use Rattle.zone_occ.specs.declared.scan.TheConstants.{FARTHEST}
 use Rattle.zone_occ.specs.ZoneText.{ZoneText}
 use Rattle.zone_occ.specs.Sides.{sides}
 use Rattle.zone_occ.specs.Conversion.{conv, instant_by, IsNear}
@@ -58,7 +59,7 @@ seen_more sets zone cursor minute next moment first one_more seen =
     ]
 
 -- the minutes that begin more than the farthest offset before a moment have no instant from it on
-pub none_seen : (sets : CronSets) (zone : ZoneText) (cursor : Civil) (from moment : ℕ) → IsNear zone → civil_second cursor ≡ from - 93_599 → IsSeen sets zone cursor moment → from ≤ moment → ⊥
+pub none_seen : (sets : CronSets) (zone : ZoneText) (cursor : Civil) (from moment : ℕ) → IsNear zone → civil_second cursor ≡ from - FARTHEST → IsSeen sets zone cursor moment → from ≤ moment → ⊥
 none_seen sets zone cursor from moment near start seen late =
     let within = near seen.minute (pos moment) seen.shown in
     let before = seen.before in
@@ -71,7 +72,7 @@ pub record IsEarliest (sets : CronSets) (zone : ZoneText) (from : ℕ) (cursor :
   pub least : (moment : ℕ) → IsSeen sets zone cursor moment → from ≤ moment → IsAtMost earliest moment
 
 -- nothing was seen
-pub begins : (sets : CronSets) (zone : ZoneText) (from : ℕ) (cursor : Civil) → IsNear zone → IsCivilSecond cursor → civil_second cursor ≡ from - 93_599 → IsEarliest sets zone from cursor None
+pub begins : (sets : CronSets) (zone : ZoneText) (from : ℕ) (cursor : Civil) → IsNear zone → IsCivilSecond cursor → civil_second cursor ≡ from - FARTHEST → IsEarliest sets zone from cursor None
 begins sets zone from cursor near real start = record {
   real = real;
   has = tt;

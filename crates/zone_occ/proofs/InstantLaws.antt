@@ -9,17 +9,17 @@ use Rattle.std.proofs.lemmas.Option.{none-some, same_Some}
 use Rattle.jiff_core.proofs.SignedLemmas.{signed_arith}
 use Rattle.jiff_core.proofs.CalendarLemmas.{days_in_month_bounds}
 use Rattle.jiff_tz.specs.PosixRule.{int_same}
-use Rattle.sched_plain.specs.declared.expression.Civil.{Civil}
-use Rattle.sched_plain.specs.declared.expression.CronSets.{CronSets}
-use Rattle.sched_plain.specs.declared.expression.Expr.{Expr}
-use Rattle.sched_plain.specs.declared.expression.Expr.TheVariants.{At, Rate, Cron}
-use Rattle.sched_plain.specs.declared.expression.Unit.{Unit as RateUnit}
-use Rattle.sched_plain.specs.Expressions.{is_civil}
-use Rattle.sched_plain.specs.Lists.{some_pass}
-use Rattle.sched_plain.specs.Moments.{last_moment}
-use Rattle.cron_search.specs.Calendar.{IsCivilSecond}
+use Rattle.expressions.specs.declared.expression.Civil.{Civil}
+use Rattle.expressions.specs.declared.expression.CronSets.{CronSets}
+use Rattle.expressions.specs.declared.expression.Expr.{Expr}
+use Rattle.expressions.specs.declared.expression.Expr.TheVariants.{At, Rate, Cron}
+use Rattle.expressions.specs.declared.expression.Unit.{Unit as RateUnit}
+use Rattle.expressions.specs.CivilSeconds.{is_civil}
+use Rattle.plain_words.specs.Lists.{some_pass}
+use Rattle.plain_words.specs.Moments.{last_moment}
+use Rattle.cron_search.specs.CivilTime.{IsCivilSecond}
 use Rattle.cron_search.specs.Fit.{fits}
-use Rattle.cron_search.proofs.RealSeconds.{is_civil-true, IsCivilSecond-is_civil}
+use Rattle.expressions.proofs.RealSeconds.{is_civil-true, IsCivilSecond-is_civil}
 use Rattle.zone_occ.specs.ZoneText.{ZoneText}
 use Rattle.zone_occ.specs.Conversion.{conv}
 use Rattle.zone_occ.specs.Instants.{period, is_step, is_shown, some_below, minute_at, some_minute, is_instant}

@@ -1,11 +1,11 @@
-pub mod SidesLemmas
-pub mod NearLemmas
-pub mod AgreementLemmas
-pub mod CivilSeconds
-pub mod InstantLaws
-pub mod Steps
-pub mod EarliestInstant
-pub mod WindowLemmas
-pub mod Batches
-pub mod Unique
-pub mod CalendarLaws
+mod SidesLemmas
+mod NearLemmas
+mod AgreementLemmas
+mod CivilSeconds
+mod InstantLaws
+mod Steps
+mod EarliestInstant
+mod WindowLemmas
+mod Batches
+mod Unique
+mod CalendarLaws

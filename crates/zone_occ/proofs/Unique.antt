@@ -6,9 +6,9 @@ use Rattle.std.proofs.lemmas.List.{ext_get_or, get_or_append_left, length_push, 
 use Rattle.std.proofs.lemmas.List.Elements.{All-push, All-weaker, Contains-get_or, Contains-append_left, Contains-push, Contains-push_cases}
 use Rattle.std.specs.List.{All, Contains}
 use Rattle.std.specs.List.Sorted.{IsStrictlyIncreasing}
-use Rattle.sched_plain.specs.declared.expression.Expr.{Expr}
-use Rattle.sched_plain.specs.Lists.{put_if}
-use Rattle.sched_plain.specs.Occurrences.{passing}
+use Rattle.expressions.specs.declared.expression.Expr.{Expr}
+use Rattle.plain_words.specs.Lists.{put_if}
+use Rattle.plain_words.specs.Lists.{passing}
 use Rattle.zone_occ.specs.ZoneText.{ZoneText}
 use Rattle.zone_occ.specs.Instants.{is_instant, instants}
 use Rattle.zone_occ.specs.FirstInstants.{IsInstant, complete_to, AreFirsts}

@@ -1,12 +1,12 @@
 -- One more moment among the first ones.
-use Rattle.std.proofs.Common.{◌≡◌, ◌⊎◌, ℕ, ◌+◌, ◌-◌, ◌<◌, ◌≤◌, Option, Some, None, Result, Ok, Err, MatchResult, List, length, get_or, take, sym, ap, ◌∙◌, subst, inl, inr, arith, length-take}
+use Rattle.std.proofs.Common.{◌≡◌, ◌⊎◌, ℕ, ◌+◌, ◌-◌, ◌<◌, ◌≤◌, Option, Some, Result, Ok, Err, MatchResult, List, length, get_or, take, sym, ap, ◌∙◌, inl, inr, arith, length-take}
 use Rattle.std.proofs.lemmas.Bool.{cases_lt, cases_order}
 use Rattle.std.proofs.lemmas.Bool.Decides.{nat_tests}
 use Rattle.std.proofs.lemmas.List.{get_or_default, get_or-take}
 use Rattle.std.proofs.lemmas.List.Edits.{length-insert, get_or-insert_below, get_or-insert_at, get_or-insert_above}
 use Rattle.std.proofs.lemmas.List.Elements.{Contains-get_or}
 use Rattle.std.proofs.lemmas.List.Kept.{AllPairs-from_increasing}
-use Rattle.std.proofs.lemmas.Option.{none-some, same_Some}
+use Rattle.std.proofs.lemmas.Option.{same_Some}
 use Rattle.std.specs.List.{All, Contains, insert}
 use Rattle.std.specs.List.Sorted.{IsStrictlyIncreasing, IsBinarySearchResult}
 use Rattle.std.specs.Ordering.{nat_cmp}
@@ -175,24 +175,6 @@ put_offered max xs at x low few rising place = record {
   from = λ y has. insert_from xs at x y place (take_from max y (insert xs at x) has);
   keeps = λ to y had early. take_keeps max to y (insert xs at x) low (insert_rising xs at x rising place) (insert_keeps xs at x y place had) early;
   sooner = λ to all bound. put_sooner max to xs at x low few rising place all bound;
-}
-
-pub same_offered : (max : ℕ) (xs : List ℕ) (x : ℕ) → length xs ≤ max → IsStrictlyIncreasing xs → Contains xs x → IsOffered max xs (Some x) xs
-same_offered max xs x few rising has = record {
-  rising = rising;
-  few = few;
-  from = λ y had. inl had;
-  keeps = λ to y had early. elim had [ inl old ↦ old | inr new ↦ subst (Contains xs) (same_Some x y new) has ];
-  sooner = λ to all bound. omega arith;
-}
-
-pub none_offered : (max : ℕ) (xs : List ℕ) → length xs ≤ max → IsStrictlyIncreasing xs → IsOffered max xs None xs
-none_offered max xs few rising = record {
-  rising = rising;
-  few = few;
-  from = λ y had. inl had;
-  keeps = λ to y had early. elim had [ inl old ↦ old | inr new ↦ absurd (none-some y new) ];
-  sooner = λ to all bound. omega arith;
 }
 
 -- ---- where a moment belongs

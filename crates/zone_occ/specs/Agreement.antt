@@ -9,7 +9,7 @@ use Rattle.jiff_tz.specs.PosixText.{DstText, TzText}
 use Rattle.jiff_tz.specs.TzifReader.{TzifText}
 use Rattle.jiff_tz.specs.TzifText.{TypeText, TransitionText}
 use Rattle.jiff_tz.specs.Year.{year_of_nanos}
-use Rattle.sched_plain.specs.Lists.{same_text}
+use Rattle.plain_words.specs.Lists.{same_text}
 use Rattle.zone_occ.specs.Sides.{rule_moment, last_row}
 
 -- Daylight saving time of a year, on a clock at UTC: from its beginning, read in standard time, to its end, read in

@@ -2,8 +2,9 @@
 use Rattle.std.specs.Prelude.{◌≡◌, ℤ, pos, ◌-ℤ◌, Option, Some, None}
 use Rattle.std.specs.Int.{int_max}
 use Rattle.jiff_core.specs.Calendar.{IsWithin}
-use Rattle.sched_plain.specs.declared.expression.Civil.{Civil}
-use Rattle.sched_plain.specs.Expressions.{civil_second}
+use Rattle.expressions.specs.declared.expression.Civil.{Civil}
+use Rattle.expressions.specs.CivilSeconds.{civil_second}
+use Rattle.zone_occ.specs.declared.scan.TheConstants.{FARTHEST}
 use Rattle.zone_occ.specs.ZoneText.{ZoneText}
 use Rattle.zone_occ.specs.Sides.{Sides, once, never, twice, sides}
 
@@ -19,4 +20,4 @@ conv zone d = instant_by (pos (civil_second d)) (sides zone (pos d.year) (pos (c
 
 -- each instant lies within 25:59:59 of its civil second read in UTC
 abbrev pub IsNear : ZoneText → Type 0
-IsNear zone = (d : Civil) → (i : ℤ) → conv zone d ≡ Some i → IsWithin 93_599 (pos (civil_second d) -ℤ i)
+IsNear zone = (d : Civil) → (i : ℤ) → conv zone d ≡ Some i → IsWithin FARTHEST (pos (civil_second d) -ℤ i)

@@ -1,16 +1,14 @@
 -- Where the bytes of zones come from: what a source tells, and what it answers.
 use Rattle.std.specs.Prelude.{◌≡◌, ℕ, ◌≤◌, Option, Some, None, Result, Ok, Err, List, length, take, find}
-use Rattle.sched_plain.specs.Lists.{same_text}
-use Rattle.sched_plain.specs.Outside.{Rose}
+use Rattle.plain_words.specs.Lists.{same_text}
+use Rattle.outside.specs.Failing.{Failing}
+use Rattle.outside.specs.Faults.{Rose}
+use Rattle.zone_occ.specs.declared.zone_files.TheConstants.{LONGEST_ANSWER}
 use Rattle.zone_occ.specs.declared.zone_files.NamedZone.{NamedZone}
 use Rattle.zone_occ.specs.declared.zone_files.ZoneAnswer.{ZoneAnswer}
 use Rattle.zone_occ.specs.declared.zone_files.ZoneAnswer.TheVariants.{Present, Absent}
 use Rattle.zone_occ.specs.declared.zone_files.ZoneCallFault.{ZoneCallFault}
 use Rattle.zone_occ.specs.declared.zone_files.ZoneCallFault.TheVariants.{Failed, OutOfMemory}
-
--- the most bytes of an answer: one more than a zone may have, so that too many show
-abbrev pub longest_answer : ℕ
-longest_answer = 65_537
 
 -- the zone of this name, the first of them
 abbrev pub zone_named : List NamedZone → List ℕ → Option NamedZone
@@ -19,7 +17,7 @@ zone_named zones name = find (λ zone. same_text zone.name name) zones
 -- what is answered for a zone, if there is one
 abbrev pub answer_of : Option NamedZone → ZoneAnswer
 answer_of None = Absent
-answer_of (Some zone) = Present (take longest_answer zone.bytes)
+answer_of (Some zone) = Present (take LONGEST_ANSWER zone.bytes)
 
 -- an answer is what the source tells of the name, where it tells
 abbrev pub IsTold : Option (List NamedZone) → List ℕ → ZoneAnswer → Type 0
@@ -28,7 +26,7 @@ IsTold (Some zones) name answer = answer ≡ answer_of (zone_named zones name)
 
 -- an answer has no more bytes than are needed to see that there are too many
 abbrev pub IsShort : ZoneAnswer → Type 0
-IsShort (Present bytes) = length bytes ≤ longest_answer
+IsShort (Present bytes) = length bytes ≤ LONGEST_ANSWER
 IsShort Absent = Unit {0}
 
 -- the count of failed calls stays, but for a call that failed
@@ -37,9 +35,7 @@ IsCounted (Ok answer) before now = now ≡ before
 IsCounted (Err OutOfMemory) before now = now ≡ before
 IsCounted (Err Failed) before now = Rose before now
 
--- what contracts see of zones in memory: the zones, the numbers of the calls that fail, and the counts
+-- what contracts see of zones in memory: the zones, and the calls that fail
 pub record MapText : Type 0 where
   pub zones : List NamedZone
-  pub failing : List ℕ
-  pub calls : ℕ
-  pub faults : ℕ
+  pub failing : Failing

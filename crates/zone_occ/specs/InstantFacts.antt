@@ -1,8 +1,8 @@
 -- The instants of each kind of expression as facts: what the test of a moment says, in words of logic.
 use Rattle.std.specs.Prelude.{◌≡◌, ℕ, ◌+◌, ◌*◌, ◌≤◌, pos, Some}
-use Rattle.sched_plain.specs.declared.expression.Civil.{Civil}
-use Rattle.sched_plain.specs.declared.expression.CronSets.{CronSets}
-use Rattle.sched_plain.specs.Moments.{last_moment}
+use Rattle.expressions.specs.declared.expression.Civil.{Civil}
+use Rattle.expressions.specs.declared.expression.CronSets.{CronSets}
+use Rattle.plain_words.specs.Moments.{last_moment}
 use Rattle.cron_search.specs.Search.{IsFittingMinute}
 use Rattle.zone_occ.specs.ZoneText.{ZoneText}
 use Rattle.zone_occ.specs.Conversion.{conv}

@@ -2,15 +2,15 @@
 -- are whole seconds since 1970-01-01T00:00:00Z.
 use Rattle.std.specs.Prelude.{ℕ, ◌+◌, ◌-◌, ◌*◌, ◌%◌, ◌==◌, nat_le, pos, Bool, ◌&&◌, List}
 use Rattle.jiff_tz.specs.PosixRule.{int_same}
-use Rattle.sched_plain.specs.declared.expression.Civil.{Civil}
-use Rattle.sched_plain.specs.declared.expression.Expr.{Expr}
-use Rattle.sched_plain.specs.declared.expression.Expr.TheVariants.{At, Rate, Cron}
-use Rattle.sched_plain.specs.declared.expression.Unit.{Unit as RateUnit}
-use Rattle.sched_plain.specs.declared.expression.Unit.TheVariants as units
-use Rattle.sched_plain.specs.Expressions.{is_civil}
-use Rattle.sched_plain.specs.Lists.{some_pass}
-use Rattle.sched_plain.specs.Moments.{last_moment}
-use Rattle.sched_plain.specs.Occurrences.{passing, any_passing}
+use Rattle.expressions.specs.declared.expression.Civil.{Civil}
+use Rattle.expressions.specs.declared.expression.Expr.{Expr}
+use Rattle.expressions.specs.declared.expression.Expr.TheVariants.{At, Rate, Cron}
+use Rattle.expressions.specs.declared.expression.Unit.{Unit as RateUnit}
+use Rattle.expressions.specs.declared.expression.Unit.TheVariants as units
+use Rattle.expressions.specs.CivilSeconds.{is_civil}
+use Rattle.plain_words.specs.Lists.{some_pass}
+use Rattle.plain_words.specs.Moments.{last_moment}
+use Rattle.plain_words.specs.Lists.{passing, any_passing}
 use Rattle.cron_search.specs.Fit.{fits}
 use Rattle.zone_occ.specs.ZoneText.{ZoneText}
 use Rattle.zone_occ.specs.Conversion.{conv}

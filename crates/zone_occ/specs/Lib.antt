@@ -10,4 +10,4 @@ pub mod Instants
 pub mod FirstInstants
 pub mod InstantFacts
 pub mod Window
-pub mod Calendar
+pub mod ZoneCalendar

@@ -1,17 +1,14 @@
--- Which bytes are a zone: at most 65,536 of them, a zone file where they begin with `TZif`, else a POSIX rule.
+-- Which bytes are a zone: at most LONGEST_ZONE of them, a zone file where they begin with `TZif`, else a POSIX rule.
 use Rattle.std.specs.Prelude.{◌≡◌, ℕ, nat_eq, nat_lt, ◌<◌, ◌≤◌, Bool, true, if◌then◌else◌, Option, Some, None, Ok, Err, is_ok, List, length, codes}
 use Rattle.std.specs.List.{starts_with}
 use Rattle.jiff_tz.specs.PosixText.{TzText}
 use Rattle.jiff_tz.specs.PosixReader.{read_whole}
 use Rattle.jiff_tz.specs.TzifReader.{TzifText, Parsed, read_tzif}
+use Rattle.plain_words.specs.declared.limits.TheConstants.{LONGEST_ZONE}
 use Rattle.zone_occ.specs.declared.zone.ZoneFault.{ZoneFault}
 use Rattle.zone_occ.specs.declared.zone.ZoneFault.TheVariants.{TooLong, NotAZone, OutOfMemory}
 use Rattle.zone_occ.specs.ZoneText.{ZoneText, rule, table}
 use Rattle.zone_occ.specs.Agreement.{agrees}
-
--- the most bytes of a zone
-abbrev pub longest_zone : ℕ
-longest_zone = 65_536
 
 -- the bytes are those of a zone file
 abbrev pub is_file : List ℕ → Bool
@@ -33,7 +30,7 @@ read_zone bytes = if is_file bytes then of_table (read_tzif bytes) else of_rule 
 
 -- the zone of these bytes, if they are one
 abbrev pub zone_of : List ℕ → Option ZoneText
-zone_of bytes = if nat_lt longest_zone (length bytes) then None else read_zone bytes
+zone_of bytes = if nat_lt LONGEST_ZONE (length bytes) then None else read_zone bytes
 
 -- why bytes that are not too many could not be read
 abbrev pub IsRefusal : ZoneFault → List ℕ → Type 0
@@ -44,6 +41,6 @@ IsRefusal OutOfMemory bytes = (is_file bytes ≡ true) × (is_ok (read_tzif byte
 -- Why a zone could not be read: too many bytes, which are counted; not too many and not a zone; or not too many, and
 -- memory was wanted for what reads as a zone file.
 abbrev pub IsFaultOf : ZoneFault → List ℕ → Type 0
-IsFaultOf (TooLong count) bytes = (longest_zone < length bytes) × (count ≡ length bytes)
-IsFaultOf NotAZone bytes = (length bytes ≤ longest_zone) × (zone_of bytes ≡ None)
-IsFaultOf OutOfMemory bytes = (length bytes ≤ longest_zone) × IsRefusal OutOfMemory bytes
+IsFaultOf (TooLong count) bytes = (LONGEST_ZONE < length bytes) × (count ≡ length bytes)
+IsFaultOf NotAZone bytes = (length bytes ≤ LONGEST_ZONE) × (zone_of bytes ≡ None)
+IsFaultOf OutOfMemory bytes = (length bytes ≤ LONGEST_ZONE) × IsRefusal OutOfMemory bytes

@@ -1,6 +1,6 @@
 //! The first instants of an expression in a span.
 ghost use Rattle.std.specs.Prelude.{◌≡◌, ◌≤◌, take, IfOk, IfSome, IfNone};
-ghost use Rattle.sched_plain.specs.Moments.{last_moment};
+ghost use Rattle.plain_words.specs.Moments.{last_moment};
 ghost use Rattle.zone_occ.specs.Instants.{instants};
 ghost use Rattle.zone_occ.specs.InstantFacts.{IsCronInstant};
 ghost use Rattle.zone_occ.specs.FirstInstants as firsts;
@@ -11,7 +11,8 @@ use crate::next::next_after;
 use crate::scan::{FARTHEST, instant_within, next_minute};
 use crate::window::{complete_to, offer};
 use crate::zone::Zone;
-use sched_plain::{CronSets, Expr, Items};
+use expressions::{CronSets, Expr};
+use plain_words::Items;
 use std::alloc::{AllocError, Global};
 
 /// Instants in seconds since 1970 UTC, rising.
@@ -37,36 +38,6 @@ fn next_up_to(expr: &Expr, zone: &Zone, anchor: u64, from: u64, to: u64) -> Opti
         return None;
     }
     Some(moment)
-}
-
-/// The first instants of a span, by one search for each.
-fn one_by_one(
-    alloc: Global,
-    expr: &Expr,
-    zone: &Zone,
-    anchor: u64,
-    from: u64,
-    to: u64,
-    max: usize,
-) -> Result<Vec<u64>, AllocError>
-    requires searchable { IsSearchable expr.now }
-    requires to { to ≤ last_moment }
-    requires max { 1 ≤ max }
-    ensures { IfOk result (λ moments. AreFirsts (IsInstant expr.now zone.now anchor) from to max moments.items) }
-{
-    let mut moments = Vec::new(alloc);
-    let mut start = from;
-    while let Some(moment) = next_up_to(
-        expr,
-        zone,
-        anchor,
-        start,
-        complete_to(moments.as_slice(), max, to),
-    ) {
-        offer(&mut moments, max, Some(moment))?;
-        start = moment + 1;
-    }
-    Ok(moments)
 }
 
 /// The first instants of a cron in a span, by one scan of its minutes, so that the days round each
@@ -100,6 +71,7 @@ fn by_scan(
     Ok(moments)
 }
 
+/// The first instants of a span: of a cron by one scan, and else by one search for each.
 fn first_moments(
     alloc: Global,
     expr: &Expr,
@@ -114,10 +86,24 @@ fn first_moments(
     requires max { 1 ≤ max }
     ensures { IfOk result (λ moments. AreFirsts (IsInstant expr.now zone.now anchor) from to max moments.items) }
 {
-    match expr {
-        Expr::Cron(sets) if from <= to => by_scan(alloc, sets, zone, from, to, max),
-        _ => one_by_one(alloc, expr, zone, anchor, from, to, max),
+    if let Expr::Cron(sets) = expr
+        && from <= to
+    {
+        return by_scan(alloc, sets, zone, from, to, max);
     }
+    let mut moments = Vec::new(alloc);
+    let mut start = from;
+    while let Some(moment) = next_up_to(
+        expr,
+        zone,
+        anchor,
+        start,
+        complete_to(moments.as_slice(), max, to),
+    ) {
+        offer(&mut moments, max, Some(moment))?;
+        start = moment + 1;
+    }
+    Ok(moments)
 }
 
 /// The first `max` instants of an expression in a zone from `from` to `to`, both included, rising, none

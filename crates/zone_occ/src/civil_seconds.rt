@@ -1,14 +1,14 @@
 //! Civil seconds as numbers: the seconds since 1970-01-01T00:00:00 on a clock that is never changed.
 ghost use Rattle.std.specs.Prelude.{◌≡◌, ◌≤◌, ◌+◌};
-ghost use Rattle.sched_plain.specs.Moments.{last_moment};
-ghost use Rattle.cron_search.specs.Calendar.{IsCivilSecond, civil_second};
+ghost use Rattle.plain_words.specs.Moments.{last_moment};
+ghost use Rattle.cron_search.specs.CivilTime.{IsCivilSecond, civil_second};
 
 use crate::conversion::datetime;
+use expressions::Civil;
 use jiff_core::civil::{Date, Time};
-use sched_plain::Civil;
 
-/// The days from the library's first date to 1970-01-01.
-const DAYS_BEFORE_1970: u64 = 4_371_587;
+/// The seconds of a day.
+pub const DAY_SECONDS: u64 = 86_400;
 
 /// The seconds from 1970-01-01T00:00:00 to a civil second.
 pub fn second_of(d: Civil) -> u64
@@ -25,8 +25,10 @@ pub fn civil_at(second: u64) -> Civil
     ensures real { IsCivilSecond result }
     ensures value { civil_second result ≡ second }
 {
-    let date = Date::from_days_since_min((second / 86_400 + DAYS_BEFORE_1970) as u32);
-    let time = Time::from_second((second % 86_400) as u32, 0);
+    let Ok(date) = Date::from_unix_epoch_day((second / DAY_SECONDS) as i64) else {
+        unreachable!()
+    };
+    let time = Time::from_second((second % DAY_SECONDS) as u32, 0);
     Civil {
         year: date.year as u16,
         month: date.month,

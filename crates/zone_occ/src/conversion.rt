@@ -1,16 +1,16 @@
 ghost use Rattle.std.specs.Prelude.{◌≡◌, ◌-ℤ◌, pos};
 ghost use Rattle.jiff_core.specs.Calendar.{IsWithin};
 ghost use Rattle.jiff_core.specs.DateTime.{civil_seconds};
-ghost use Rattle.cron_search.specs.Calendar.{IsCivilSecond, civil_second};
+ghost use Rattle.cron_search.specs.CivilTime.{IsCivilSecond, civil_second};
 ghost use Rattle.zone_occ.specs.Sides.{sides};
 ghost use Rattle.zone_occ.specs.Kind.{kind_text, sides_of};
 ghost use Rattle.zone_occ.specs.Conversion.{conv, instant_by};
 
 use crate::zone::{Kind, Zone};
+use expressions::Civil;
 use jiff_core::Offset;
 use jiff_core::civil::{Date, DateTime, Time};
 use jiff_tz::AmbiguousOffset;
-use sched_plain::Civil;
 
 /// The civil second as the library's.
 pub(crate) fn datetime(d: Civil) -> DateTime

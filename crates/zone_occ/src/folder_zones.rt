@@ -1,8 +1,8 @@
 ghost use Rattle.std.specs.Prelude.{◌≡◌, ◌≤◌, None, IfOk, vec_len};
-ghost use Rattle.zone_occ.specs.Files.{longest_answer, IsShort};
+ghost use Rattle.zone_occ.specs.Files.{IsShort};
 
-use crate::zone_files::{ZoneAnswer, ZoneCallFault, ZoneFiles};
-use sched_plain::{Blob, LONGEST_ZONE, ZoneName};
+use crate::zone_files::{LONGEST_ANSWER, ZoneAnswer, ZoneCallFault, ZoneFiles};
+use plain_words::{Blob, ZoneName};
 use std::fs;
 use std::io::{self, ErrorKind, Read};
 use std::marker::Model;
@@ -46,16 +46,15 @@ impl<R: Files + AllocGlobal> FolderZones<R> {
     }
 }
 
-/// The first 65,537 bytes of a file, or all where there are fewer.
+/// The first `LONGEST_ANSWER` bytes of a file, or all where there are fewer.
 fn read_front<R: Files + AllocGlobal>(rt: &R, path: &str) -> io::Result<Vec<u8>>
-    ensures { IfOk result (λ bytes. vec_len bytes ≤ longest_answer) }
+    ensures { IfOk result (λ bytes. vec_len bytes ≤ LONGEST_ANSWER) }
 {
-    let most = LONGEST_ZONE + 1;
     let mut bytes = Vec::new(rt.alloc());
     fs::open(rt, path)?
-        .take(most as u64)
+        .take(LONGEST_ANSWER as u64)
         .read_to_end(&mut bytes)?;
-    bytes.truncate(most);
+    bytes.truncate(LONGEST_ANSWER);
     Ok(bytes)
 }
 

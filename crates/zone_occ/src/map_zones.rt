@@ -1,9 +1,9 @@
 ghost use Rattle.std.specs.Prelude.{◌≡◌, ◌+◌, ◌-◌, ◌^◌, ◌≤◌, ◌↔◌, min, Some, option_map, Contains, IfOk, IsErrOf, length, take};
-ghost use Rattle.zone_occ.specs.Files.{zone_named, answer_of, longest_answer, IsTold, IsShort, IsCounted};
+ghost use Rattle.zone_occ.specs.Files.{zone_named, answer_of, IsTold, IsShort, IsCounted};
 
-use crate::failing_calls::FailingCalls;
-use crate::zone_files::{NamedZone, ZoneAnswer, ZoneCallFault, ZoneFiles};
-use sched_plain::{Blob, LONGEST_ZONE, ZoneName};
+use crate::zone_files::{LONGEST_ANSWER, NamedZone, ZoneAnswer, ZoneCallFault, ZoneFiles};
+use outside::FailingCalls;
+use plain_words::{Blob, ZoneName};
 use std::alloc::{AllocError, Global};
 use std::marker::Model;
 
@@ -19,19 +19,15 @@ impl Model for MapZones {
 
     ghost Value = { MapText };
 
-    ghost view = { λ m. record {
-      zones = m.zones.items;
-      failing = m.failing.numbers.items;
-      calls = m.failing.calls;
-      faults = m.failing.faults;
-    } };
+    ghost view = { λ m. record { zones = m.zones.items; failing = m.failing } };
 }
 
 impl MapZones {
     /// These zones, of which the first of a name counts. The calls with the numbers in `failing` fail,
     /// counted from 1.
     pub fn new(zones: Vec<NamedZone>, failing: Vec<u64>) -> MapZones
-        ensures { result ≡ record { zones = zones.items; failing = failing.items; calls = 0; faults = 0 } }
+        ensures { result
+            ≡ record { zones = zones.items; failing = record { numbers = failing.items; calls = 0; faults = 0 } } }
     {
         MapZones {
             zones,
@@ -41,9 +37,9 @@ impl MapZones {
 
     /// How many calls failed.
     pub fn faults(&self) -> u64
-        ensures { result ≡ self.now.faults }
+        ensures { result ≡ self.now.failing.faults }
     {
-        self.failing.faults
+        self.failing.faults()
     }
 }
 
@@ -53,15 +49,15 @@ fn find_zone<'z>(zones: &'z [NamedZone], name: &ZoneName) -> Option<&'z NamedZon
     zones.iter().find(|zone| zone.name == *name)
 }
 
-/// The bytes, of more than 65,537 the first 65,537.
+/// The bytes, of more than `LONGEST_ANSWER` the first so many.
 fn front(bytes: &[u8]) -> &[u8]
-    ensures front { result.now ≡ take longest_answer bytes.now }
-    ensures short { length result.now ≤ longest_answer }
+    ensures front { result.now ≡ take LONGEST_ANSWER bytes.now }
+    ensures short { length result.now ≤ LONGEST_ANSWER }
 {
-    if bytes.len() <= LONGEST_ZONE {
+    if bytes.len() <= LONGEST_ANSWER {
         return bytes;
     }
-    &bytes[..LONGEST_ZONE + 1]
+    &bytes[..LONGEST_ANSWER]
 }
 
 fn copy_of(alloc: Global, bytes: &[u8]) -> Result<Blob, AllocError>
@@ -87,17 +83,21 @@ fn answer_for(alloc: Global, zone: Option<&NamedZone>) -> Result<ZoneAnswer, Zon
 impl ZoneFiles for MapZones {
     ghost told = { λ m. Some m.zones };
 
-    ghost faults = { λ m. m.faults };
+    ghost faults = { λ m. m.failing.faults };
 
     fn read(&mut self, name: &ZoneName) -> Result<ZoneAnswer, ZoneCallFault>
         ensures answer { IfOk result (IsTold (Some self.old.zones) name.now) }
         ensures short { IfOk result IsShort }
         ensures told { Some self.new.zones ≡ Some self.old.zones }
-        ensures later { self.old.faults ≤ self.new.faults }
-        ensures count { IsCounted result self.old.faults self.new.faults }
-        ensures listed { IsErrOf result ZoneCallFault.Failed ↔ Contains self.old.failing self.new.calls }
-        ensures failing { self.new.failing ≡ self.old.failing }
-        ensures calls { self.new.calls ≡ min (self.old.calls + 1) (2 ^ 64 - 1) }
+        ensures later { self.old.failing.faults ≤ self.new.failing.faults }
+        ensures count { IsCounted result self.old.failing.faults self.new.failing.faults }
+
+        // The list decides, and nothing else.
+        ensures listed { IsErrOf result ZoneCallFault.Failed ↔ Contains self.old.failing.numbers self.new.failing.calls }
+        ensures numbers { self.new.failing.numbers ≡ self.old.failing.numbers }
+        ensures calls { self.new.failing.calls ≡ min (self.old.failing.calls + 1) (2 ^ 64 - 1) }
+        ensures faults { IsErrOf result ZoneCallFault.Failed
+            → self.new.failing.faults ≡ min (self.old.failing.faults + 1) (2 ^ 64 - 1) }
     {
         if self.failing.fails_next() {
             return Err(ZoneCallFault::Failed);

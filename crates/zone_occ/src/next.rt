@@ -1,27 +1,28 @@
 //! The next instant of an expression.
 ghost use Rattle.std.specs.Prelude.{◌≡◌, ◌≤◌, ◌<◌, ◌^◌, IfSome, IfNone};
-ghost use Rattle.sched_plain.specs.Moments.{last_moment};
-ghost use Rattle.cron_search.specs.Calendar.{IsCivilSecond};
+ghost use Rattle.plain_words.specs.Moments.{last_moment};
+ghost use Rattle.cron_search.specs.CivilTime.{IsCivilSecond};
 ghost use Rattle.zone_occ.specs.Instants as instants;
 ghost use Rattle.zone_occ.specs.InstantFacts.{IsAtInstant, IsStep, IsRateInstant, IsCronInstant};
 ghost use Rattle.zone_occ.specs.FirstInstants as firsts;
 ghost use Rattle.zone_occ.specs.FirstInstants.{IsSearchable, IsInstant, IsNext, HasNoNext};
 
-use crate::civil_seconds::{civil_at, just_after};
+use crate::civil_seconds::{DAY_SECONDS, civil_at, just_after};
 use crate::scan::{FARTHEST, instant_within, next_minute};
 use crate::zone::Zone;
-use sched_plain::{Civil, CronSets, Expr, LAST_MOMENT, Unit};
+use expressions::{Civil, CronSets, Expr, Unit};
+use plain_words::LAST_MOMENT;
 
 /// The seconds of a unit.
 fn unit_seconds(unit: Unit) -> u64
     ensures value { result ≡ instants.unit_seconds unit }
     ensures low { 1 ≤ result }
-    ensures high { result ≤ 86_400 }
+    ensures high { result ≤ DAY_SECONDS }
 {
     match unit {
         Unit::Minute => 60,
         Unit::Hour => 3600,
-        Unit::Day => 86_400,
+        Unit::Day => DAY_SECONDS,
     }
 }
 

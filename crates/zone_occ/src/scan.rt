@@ -1,8 +1,8 @@
 //! The instants of single civil seconds, and the scan of a cron's minutes.
 ghost use Rattle.std.specs.Prelude.{◌≡◌, ℕ, ◌≤◌, ◌<◌, pos, Some, IfSome, IfNone};
-ghost use Rattle.sched_plain.specs.Moments.{last_moment};
-ghost use Rattle.sched_plain.specs.declared.expression.Civil.{Civil};
-ghost use Rattle.cron_search.specs.Calendar.{IsCivilSecond};
+ghost use Rattle.plain_words.specs.Moments.{last_moment};
+ghost use Rattle.expressions.specs.declared.expression.Civil.{Civil};
+ghost use Rattle.cron_search.specs.CivilTime.{IsCivilSecond};
 ghost use Rattle.cron_search.specs.Search.{IsFittingMinute, IsFirstFit, IsNoLater};
 ghost use Rattle.zone_occ.specs.Conversion.{conv};
 
@@ -10,7 +10,7 @@ use crate::civil_seconds::second_of;
 use crate::conversion::conv;
 use crate::zone::Zone;
 use cron_search::next_civil;
-use sched_plain::{Civil, CronSets};
+use expressions::{Civil, CronSets};
 
 /// The farthest that an instant lies from its civil second read in UTC: 25:59:59.
 pub const FARTHEST: u64 = 93_599;

@@ -11,7 +11,7 @@ ghost use Rattle.zone_occ.specs.Conversion.{IsNear};
 
 use jiff_core::Error;
 use jiff_tz::{Tzif, posix};
-use sched_plain::LONGEST_ZONE;
+use plain_words::LONGEST_ZONE;
 use std::alloc::Global;
 use std::marker::Model;
 

@@ -3,8 +3,11 @@ ghost use Rattle.std.specs.Prelude.{◌≡◌, ℕ, ◌≤◌, Option, List, IfO
 ghost use Rattle.zone_occ.specs.declared.zone_files.NamedZone.{NamedZone};
 ghost use Rattle.zone_occ.specs.Files.{IsTold, IsShort, IsCounted};
 
-use sched_plain::{Blob, TryCopy, ZoneName};
+use plain_words::{Blob, LONGEST_ZONE, TryCopy, ZoneName};
 use std::alloc::AllocError;
+
+/// The most bytes of an answer: one more than a zone may have, so that too many show.
+pub const LONGEST_ANSWER: usize = LONGEST_ZONE + 1;
 
 /// The bytes of a zone, with its name.
 #[derive(Debug, Drop)]
@@ -16,7 +19,7 @@ pub struct NamedZone {
 /// What there is of a name.
 #[derive(Debug, Drop)]
 pub enum ZoneAnswer {
-    /// These bytes, which need not be a zone; of more than 65,537 the first 65,537.
+    /// These bytes, which need not be a zone; of more than `LONGEST_ANSWER` the first so many.
     Present(Blob),
     /// Nothing.
     Absent,
@@ -57,7 +60,7 @@ pub trait ZoneFiles {
     /// How many calls failed. A count that has come to the greatest u64 stays there.
     ghost faults: { Self → ℕ };
 
-    /// The bytes of this name, at most the first 65,537.
+    /// The bytes of this name, at most the first `LONGEST_ANSWER`.
     fn read(&mut self, name: &ZoneName) -> Result<ZoneAnswer, ZoneCallFault>
         ensures answer { IfOk result (IsTold (told self.old) name.now) }
         ensures short { IfOk result IsShort }

@@ -4,20 +4,25 @@
 //! the answers with another program's.
 #![tactic(auto)]
 
-ghost use Rattle.std.specs.Prelude.{IfOk};
-ghost use Rattle.cron_search.specs.Calendar.{IsCivilSecond};
+ghost use Rattle.std.specs.Prelude.{◌≡◌, ◌≤◌, Some, IfOk, vec_len};
+ghost use Rattle.cron_search.specs.CivilTime.{IsCivilSecond};
+ghost use Rattle.zone_occ.specs.ZoneText.{utc};
+ghost use Rattle.zone_occ.specs.ZoneBytes.{zone_of};
 
 use anyhow::bail;
 use expr_grammar::read_expr;
-use sched_plain::{Civil, Expr, ZoneName};
+use expressions::{Civil, Expr};
+use plain_words::ZoneName;
 use std::alloc::Global;
 use std::env;
 use std::rt::Files;
-use zone_occ::{FolderZones, Zone, ZoneAnswer, ZoneFiles, conv};
+use zone_occ::{FolderZones, LONGEST_ANSWER, Zone, ZoneAnswer, ZoneFiles, conv};
 
 const UTC: &str = "UTC";
 
-fn read_name(alloc: Global, name: &str) -> anyhow::Result<ZoneName> {
+fn read_name(alloc: Global, name: &str) -> anyhow::Result<ZoneName>
+    ensures { IfOk result (λ zone. zone ≡ name.now) }
+{
     match ZoneName::read(alloc, name.as_bytes()) {
         Ok(name) => Ok(name),
         Err(_) => bail!("no name of a zone"),
@@ -29,7 +34,9 @@ fn read_file<R: Files + AllocGlobal + Drop>(
     rt: R,
     folder: String,
     name: &str,
-) -> anyhow::Result<Vec<u8>> {
+) -> anyhow::Result<Vec<u8>>
+    ensures { IfOk result (λ bytes. vec_len bytes ≤ LONGEST_ANSWER) }
+{
     let name = read_name(rt.alloc(), name)?;
     let mut zones = FolderZones::new(rt, folder);
     match zones.read(&name) {
@@ -39,14 +46,19 @@ fn read_file<R: Files + AllocGlobal + Drop>(
     }
 }
 
-fn read_zone(alloc: Global, bytes: &[u8]) -> anyhow::Result<Zone> {
+fn read_zone(alloc: Global, bytes: &[u8]) -> anyhow::Result<Zone>
+    ensures { IfOk result (λ zone. zone_of bytes.now ≡ Some zone) }
+{
     match Zone::read(alloc, bytes) {
         Ok(zone) => Ok(zone),
         Err(_) => bail!("the file is no zone"),
     }
 }
 
-fn zone_of(rt: &HostRuntime, folder: String, name: &str) -> anyhow::Result<Zone> {
+/// The zone of that name: the one that is built in, or one of the folder.
+fn zone_of(rt: &HostRuntime, folder: String, name: &str) -> anyhow::Result<Zone>
+    ensures { name.now ≡ UTC.now → IfOk result (λ zone. zone ≡ utc) }
+{
     if name == UTC {
         return Ok(Zone::utc());
     }

@@ -1,7 +1,7 @@
 //! The body of a request, in blocks.
 ghost use Rattle.std.specs.Prelude.{◌≡◌, ◌≢◌, ◌+◌, ◌<◌, ◌≤◌, [], length, IfOk, IfErr, IfSome, OnOk};
 ghost use Rattle.http_wire.specs.Devices.{Gives};
-ghost use Rattle.sched_plain.specs.Outside.{Rose};
+ghost use Rattle.outside.specs.Faults.{Rose};
 ghost use Rattle.http_wire.specs.Heads.{AddsPiece, TakesFewer, TakesUpTo};
 
 use super::FrameFault;

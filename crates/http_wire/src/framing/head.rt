@@ -1,21 +1,16 @@
 //! The head of a request, byte by byte.
 ghost use Rattle.std.specs.Prelude.{◌≡◌, ◌≢◌, ℕ, ◌+◌, ◌^◌, ◌<◌, ◌≤◌, ◌⊎◌, List, [], ◌∷◌, ◌++◌, length, Option, None, Ok, IfOk, IfErr, IfSome, IsErr, OnErr, OnOk, option_to_list};
 ghost use Rattle.httparse.specs.Grammar.{RequestHead};
-ghost use Rattle.http_wire.specs.Devices.{HasCause, Gives};
-ghost use Rattle.sched_plain.specs.Outside.{Rose};
-ghost use Rattle.http_wire.specs.Heads.{BeginsWithHead, HasNoHead, NeverHasHead, IsHead, HasNoShortHead, TakesNoHead, TakesAtMostHead};
+ghost use Rattle.http_wire.specs.Devices.{Gives};
+ghost use Rattle.outside.specs.Faults.{HasCause, Rose};
+ghost use Rattle.http_wire.specs.Heads.{BeginsWithHead, HasNoHead, NeverHasHead, IsHead, IsNoShortHead, TakesNoHead, TakesAtMostHead};
 
 use super::FrameFault;
+use crate::limits::{HEAD_LIMIT, HEADER_LIMIT};
 use crate::source::{Source, SourceFailed};
 use httparse::Status;
 use httparse::spans::{EMPTY_HEADER_SPAN, parse_request};
 use std::alloc::{AllocError, Global};
-
-/// The most bytes of a head, with the empty lines before it.
-pub const HEAD_LIMIT: usize = 16_384;
-
-/// The most headers of a head.
-pub(super) const HEADER_LIMIT: usize = 64;
 
 /// What the bytes of a head so far are.
 #[derive(Clone, Copy, Debug, PartialEq, Eq)]
@@ -28,6 +23,7 @@ enum Look {
     Bad,
 }
 
+/// What these bytes are.
 fn look_at(bytes: &[u8]) -> Look
     ensures whole { result ≡ Look.Whole → (h : RequestHead) × (rest : List ℕ)
         × BeginsWithHead bytes.now h rest }
@@ -88,7 +84,7 @@ pub(super) fn read_head<S: Source>(
     ensures ended { result ≡ Ok None
         → IfSome (S.left source.old) (λ bytes. bytes ≡ []) × (S.left source.new ≡ S.left source.old) }
     ensures unframed { IfErr result (λ e. e ≡ FrameFault.Unframed
-        → IfSome (S.left source.old) HasNoShortHead) }
+        → IfSome (S.left source.old) IsNoShortHead) }
     ensures part { IfErr result (λ e. e ≢ FrameFault.OutOfMemory
         → TakesNoHead (S.left source.old) (S.left source.new)) }
     ensures wanting { IfErr result (λ e. e ≡ FrameFault.OutOfMemory

@@ -1,25 +1,17 @@
 //! The values of the headers of a head by their names, and the length of the body that they say.
-ghost use Rattle.std.specs.Prelude.{◌≡◌, ◌+◌, ◌<◌, ◌≤◌, List, [], ◌∷◌, ◌++◌, ℕ, length, map, Some, None, if◌then◌else◌, All, IfOk, OnOk};
-ghost use Rattle.std.specs.List.{list_all};
-ghost use Rattle.std.specs.Char.{is_ascii_digit};
+ghost use Rattle.std.specs.Prelude.{◌≡◌, List, [], ◌∷◌, ◌++◌, ℕ, length, map, if◌then◌else◌, All, IfOk, OnOk};
 ghost use Rattle.std.specs.Str.{str_eq_ignore_ascii_case};
-ghost use Rattle.std.specs.Str.Parse.{digits_value};
 ghost use Rattle.httparse.specs.Grammar.{RequestHead};
 ghost use Rattle.httparse.specs.Spans.{header_bytes, IsHeaderWithin};
 ghost use Rattle.http_wire.specs.Framing.{values_in, length_value, sized_by, length_of_fields};
 ghost use Rattle.http_wire.specs.Heads.{BeginsWithHead, HoldsValues};
 
-use super::head::HEADER_LIMIT;
+use crate::digits::number_within;
+use crate::limits::{BODY_LIMIT, HEADER_LIMIT, LENGTH_DIGITS};
 use httparse::Status;
 use httparse::spans::{EMPTY_HEADER_SPAN, HeaderSpan, parse_request};
-use sched_plain::{Blob, Items};
+use plain_words::{Blob, Items};
 use std::alloc::{AllocError, Global};
-
-/// The most bytes of a body.
-pub const BODY_LIMIT: u32 = 262_144;
-
-/// The most digits of Content-Length.
-const LENGTH_DIGITS: usize = 6;
 
 /// The values of a header that is to stand at most once.
 #[derive(Clone, Copy, Debug)]
@@ -67,39 +59,15 @@ fn value_of<'a>(head: &'a [u8], headers: &[HeaderSpan], name: &[u8]) -> Held<'a>
     found
 }
 
-/// The number that at most 6 digits write, or none where a byte is no digit.
-fn number_from(digits: &[u8]) -> Option<u32>
-    requires { length digits.now ≤ LENGTH_DIGITS }
-    ensures { result
-        ≡ (if list_all is_ascii_digit digits.now then Some (digits_value 10 digits.now) else None) }
-{
-    let mut number = 0;
-    for byte in digits {
-        if !byte.is_ascii_digit() {
-            return None;
-        }
-        number = number * 10 + (*byte - b'0') as u32;
-    }
-    Some(number)
-}
-
-/// The number that 1 to 6 digits write, where a body may be as long.
-fn length_from(digits: &[u8]) -> Option<u32>
+/// The length that 1 to 6 digits write, where a body may be as long.
+fn length_from(digits: &[u8]) -> Option<u64>
     ensures { result ≡ length_value digits.now }
 {
-    if digits.is_empty() || digits.len() > LENGTH_DIGITS {
-        return None;
-    }
-    let value = number_from(digits)?;
-    if value > BODY_LIMIT {
-        None
-    } else {
-        Some(value)
-    }
+    number_within(digits, LENGTH_DIGITS, BODY_LIMIT)
 }
 
 /// The length of the body, from the values of Transfer-Encoding and of Content-Length.
-fn sized(codings: Held, lengths: Held) -> Option<u32>
+fn sized(codings: Held, lengths: Held) -> Option<u64>
     ensures { (vs ws : List (List ℕ)) → HoldsValues codings.entry vs → HoldsValues lengths.entry ws
         → result ≡ sized_by vs ws }
 {
@@ -111,7 +79,7 @@ fn sized(codings: Held, lengths: Held) -> Option<u32>
 }
 
 /// The length of the body that a head says, or none where it says none that is allowed.
-pub(super) fn length_of(head: &[u8]) -> Option<u32>
+pub(super) fn length_of(head: &[u8]) -> Option<u64>
     ensures { (h : RequestHead) (rest : List ℕ) → BeginsWithHead head.now h rest
         → result ≡ length_of_fields h.fields }
 {

@@ -1,22 +1,18 @@
 //! The content of a schedule, from the texts that a body gives.
 ghost use Rattle.std.specs.Prelude.{◌≡◌, ◌↔◌, IsTrue, IfOk, IsSome, codes};
-ghost use Rattle.sched_plain.specs.declared.expression.Expr.TheVariants.{At};
-ghost use Rattle.sched_plain.specs.Spelling.{Spells};
+ghost use Rattle.expressions.specs.declared.expression.Expr.TheVariants.{At};
+ghost use Rattle.expressions.specs.Spelling.{Spells};
 ghost use Rattle.sched_plain.specs.Validity.{IsText, character_count};
 ghost use Rattle.target_link.specs.Address.{target_spot};
 ghost use Rattle.json_api.specs.Bodies.{HaveLengths, MakesContent, content_of as content_by};
 ghost use Rattle.json_api.specs.Reading.{IsAnswer};
 
 use expr_grammar::read_expr;
-use sched_plain::{Civil, Expr, LONGEST_AGE, Policy, Schedule, Text, ZoneName};
+use sched_plain::{
+    Civil, Expr, LONGEST_AGE, LONGEST_ARN, LONGEST_EXPRESSION, Policy, Schedule, Text, ZoneName,
+};
 use std::alloc::{AllocError, Global};
 use target_link::{SpotFault, address_of};
-
-/// The most characters of an expression.
-const LONGEST_EXPRESSION: usize = 256;
-
-/// The most characters of an arn.
-const LONGEST_ARN: usize = 1_600;
 
 /// The texts that a body gives.
 #[derive(Debug, Drop)]

@@ -2,13 +2,9 @@
 ghost use Rattle.std.specs.Prelude.{◌≡◌, ℕ, ◌<◌, ◌≤◌, List, None, Err, OnOk, OnErr, IfSome};
 ghost use Rattle.sched_plain.specs.declared.work.Work.TheVariants.{Begin};
 ghost use Rattle.sched_plain.specs.History.{History};
-ghost use Rattle.sched_plain.specs.Seen.{seen};
-ghost use Rattle.sched_plain.specs.Work.{work};
-ghost use Rattle.sched_plain.specs.Serves.{next_number};
-ghost use Rattle.book_core.specs.InUse.{calendar};
+ghost use Rattle.sched_calls.specs.Serves.{next_number};
 ghost use Rattle.timer_work.specs.Numbers.{number_behind};
-ghost use Rattle.timer_work.specs.Loads.{Lessened};
-ghost use Rattle.timer_work.specs.Sweeping.{AtWork, Fit, Went, Stopped};
+ghost use Rattle.timer_work.specs.Parts.{IsNext, IsNextAttempt, Does, StopsAtWork, NeverWanted};
 
 use crate::sweep::request::{prepare, send};
 use crate::sweep::steps::{Stop, finish, take};
@@ -21,7 +17,7 @@ use target_link::Link;
 fn number_behind(entry: Option<Entry>) -> Option<u16>
     ensures number { IfSome result (λ n. n ≡ number_behind entry) }
     ensures least { IfSome result (λ n. 1 ≤ n) }
-    ensures past { result ≡ None → 65535 < number_behind entry }
+    ensures past { result ≡ None → u16.MAX < number_behind entry }
 {
     match entry {
         Some(entry) => entry.used.checked_add(1),
@@ -33,7 +29,7 @@ fn number_behind(entry: Option<Entry>) -> Option<u16>
 fn next_number<M: Machine>(machine: &M, inc: u32, instant: u64) -> Option<u16>
     ensures number { (h : History) → M.stands machine.now h → IfSome result (λ n. n ≡ next_number h inc instant) }
     ensures least { IfSome result (λ n. 1 ≤ n) }
-    ensures past { (h : History) → M.stands machine.now h → result ≡ None → 65535 < next_number h inc instant }
+    ensures past { (h : History) → M.stands machine.now h → result ≡ None → u16.MAX < next_number h inc instant }
 {
     number_behind(machine.entry(inc, instant))
 }
@@ -48,20 +44,15 @@ fn attempt_numbered<M: Machine, L: Link>(
     number: u16,
     link: &mut L,
 ) -> Result<(), Stop>
-    requires at { at.0 ≤ 7258118399 }
+    requires at { at.0 ≤ LAST_MOMENT }
     requires inc { 1 ≤ inc }
-    requires instant { instant ≤ 7258118399 }
+    requires instant { instant ≤ LAST_MOMENT }
     requires number { 1 ≤ number }
-    ensures ended { OnOk result ((h : History) (shard : ℕ) (shards : List ℕ) → M.stands machine.old h → Fit at.0 (AtWork shard shards) h
-        → work (seen calendar h) shard at.0 ≡ Begin inc instant → number ≡ next_number h inc instant
-        → Went (M.stands machine.new) at.0 (AtWork shard shards) h (L.told link.old) (AtWork shard shards) (L.told link.new)) }
-    ensures lessens { OnOk result ((h : History) (shard : ℕ) (shards : List ℕ) → M.stands machine.old h → Fit at.0 (AtWork shard shards) h
-        → work (seen calendar h) shard at.0 ≡ Begin inc instant → number ≡ next_number h inc instant → Lessened (M.stands machine.new) at.0 shard shards h (L.told link.old) (L.told link.new)) }
-    ensures stopped { OnErr result ((h : History) (shard : ℕ) (shards : List ℕ) → M.stands machine.old h → Fit at.0 (AtWork shard shards) h
-        → work (seen calendar h) shard at.0 ≡ Begin inc instant → number ≡ next_number h inc instant
-        → Stopped (M.stands machine.new) at.0 (AtWork shard shards) h (L.told link.old) (L.told link.new)) }
-    ensures unsound { result ≡ Err Stop.Unsound → (h : History) (shard : ℕ) (shards : List ℕ) → M.stands machine.old h → Fit at.0 (AtWork shard shards) h
-        → work (seen calendar h) shard at.0 ≡ Begin inc instant → number ≡ next_number h inc instant → ⊥ }
+    ensures lessens { OnOk result ((shard : ℕ) (shards : List ℕ)
+        → Does (M.stands machine.old) (M.stands machine.new) at.0 shard shards (IsNextAttempt at.0 shard inc instant number) (L.told link.old) (L.told link.new)) }
+    ensures stopped { OnErr result ((shard : ℕ) (shards : List ℕ)
+        → StopsAtWork (M.stands machine.old) (M.stands machine.new) at.0 shard shards (IsNextAttempt at.0 shard inc instant number) (L.told link.old) (L.told link.new)) }
+    ensures unsound { result ≡ Err Stop.Unsound → (shard : ℕ) (shards : List ℕ) → NeverWanted (M.stands machine.old) at.0 shard shards (IsNextAttempt at.0 shard inc instant number) }
     ensures losses { L.losses link.old ≤ L.losses link.new }
 {
     let epoch = machine.holder(shard_of(inc)).epoch;
@@ -102,17 +93,12 @@ pub(crate) fn attempt<M: Machine, L: Link>(
     instant: u64,
     link: &mut L,
 ) -> Result<(), Stop>
-    requires { at.0 ≤ 7258118399 }
-    ensures ended { OnOk result ((h : History) (shard : ℕ) (shards : List ℕ) → M.stands machine.old h → Fit at.0 (AtWork shard shards) h
-        → work (seen calendar h) shard at.0 ≡ Begin inc instant
-        → Went (M.stands machine.new) at.0 (AtWork shard shards) h (L.told link.old) (AtWork shard shards) (L.told link.new)) }
-    ensures lessens { OnOk result ((h : History) (shard : ℕ) (shards : List ℕ) → M.stands machine.old h → Fit at.0 (AtWork shard shards) h
-        → work (seen calendar h) shard at.0 ≡ Begin inc instant → Lessened (M.stands machine.new) at.0 shard shards h (L.told link.old) (L.told link.new)) }
-    ensures stopped { OnErr result ((h : History) (shard : ℕ) (shards : List ℕ) → M.stands machine.old h → Fit at.0 (AtWork shard shards) h
-        → work (seen calendar h) shard at.0 ≡ Begin inc instant
-        → Stopped (M.stands machine.new) at.0 (AtWork shard shards) h (L.told link.old) (L.told link.new)) }
-    ensures unsound { result ≡ Err Stop.Unsound → (h : History) (shard : ℕ) (shards : List ℕ) → M.stands machine.old h → Fit at.0 (AtWork shard shards) h
-        → work (seen calendar h) shard at.0 ≡ Begin inc instant → ⊥ }
+    requires { at.0 ≤ LAST_MOMENT }
+    ensures lessens { OnOk result ((shard : ℕ) (shards : List ℕ)
+        → Does (M.stands machine.old) (M.stands machine.new) at.0 shard shards (IsNext at.0 shard (Begin inc instant)) (L.told link.old) (L.told link.new)) }
+    ensures stopped { OnErr result ((shard : ℕ) (shards : List ℕ)
+        → StopsAtWork (M.stands machine.old) (M.stands machine.new) at.0 shard shards (IsNext at.0 shard (Begin inc instant)) (L.told link.old) (L.told link.new)) }
+    ensures unsound { result ≡ Err Stop.Unsound → (shard : ℕ) (shards : List ℕ) → NeverWanted (M.stands machine.old) at.0 shard shards (IsNext at.0 shard (Begin inc instant)) }
     ensures losses { L.losses link.old ≤ L.losses link.new }
 {
     // A machine that stands for a sound history names no such occurrence, and its numbers are small.

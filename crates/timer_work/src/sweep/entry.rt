@@ -1,15 +1,11 @@
 //! Entries without an attempt: entering the occurrences that are wanted, and closing what is exhausted.
-ghost use Rattle.std.specs.Prelude.{◌≡◌, ℕ, ◌≤◌, List, Err, IfOk, OnOk, OnErr, IsTrue, length};
-ghost use Rattle.std.specs.List.{All};
-ghost use Rattle.sched_plain.specs.declared.work.Work.TheVariants.{Enter, Close};
-ghost use Rattle.sched_plain.specs.History.{History};
-ghost use Rattle.sched_plain.specs.Seen.{seen};
-ghost use Rattle.sched_plain.specs.Work.{work};
-ghost use Rattle.book_core.specs.InUse.{calendar};
-ghost use Rattle.target_link.specs.declared.link.Sent.{Sent as Handed};
-ghost use Rattle.timer_work.specs.Loads.{Lessened};
-ghost use Rattle.timer_work.specs.Sweeping.{AtWork, Fit, Went, Stopped, at_once};
+ghost use Rattle.std.specs.Prelude.{◌≡◌, ℕ, ◌≤◌, List, Err, IfOk, OnOk, OnErr, IsTrue};
 ghost use Rattle.std.specs.Prelude.{Option as Perhaps};
+ghost use Rattle.sched_plain.specs.declared.work.Work.TheVariants.{Enter, Close};
+ghost use Rattle.target_link.specs.declared.link.Sent.{Sent as Handed};
+ghost use Rattle.timer_work.specs.Offers.{IsEnterable};
+ghost use Rattle.timer_work.specs.Parts.{Keeps, IsNext, Does, NeverWanted};
+ghost use Rattle.timer_work.specs.Sweeping.{at_once};
 
 use crate::sweep::steps::{Stop, take};
 use book_core::Machine;
@@ -18,8 +14,8 @@ use std::alloc::{AllocError, Global};
 
 /// Whether an Enter may have these instants.
 fn is_enterable(instants: &[u64]) -> bool
-    ensures sound { IsTrue result → (1 ≤ length instants.now) × (length instants.now ≤ 256) × All (λ i. i ≤ 7258118399) instants.now }
-    ensures whole { (1 ≤ length instants.now) × (length instants.now ≤ 256) × All (λ i. i ≤ 7258118399) instants.now → IsTrue result }
+    ensures sound { IsTrue result → IsEnterable instants.now }
+    ensures whole { IsEnterable instants.now → IsTrue result }
 {
     !instants.is_empty()
         && instants.len() <= MOST_PAIRS
@@ -47,15 +43,11 @@ pub(crate) fn enter<M: Machine>(
     at: Moment,
     inc: u32,
 ) -> Result<(), Stop>
-    requires { at.0 ≤ 7258118399 }
-    ensures entered { OnOk result ((h : History) (shard : ℕ) (shards : List ℕ) (told : Perhaps (List Handed)) → M.stands machine.old h
-        → Fit at.0 (AtWork shard shards) h → work (seen calendar h) shard at.0 ≡ Enter inc
-        → Went (M.stands machine.new) at.0 (AtWork shard shards) h told (AtWork shard shards) told) }
-    ensures lessens { OnOk result ((h : History) (shard : ℕ) (shards : List ℕ) (told : Perhaps (List Handed)) → M.stands machine.old h
-        → Fit at.0 (AtWork shard shards) h → work (seen calendar h) shard at.0 ≡ Enter inc → Lessened (M.stands machine.new) at.0 shard shards h told told) }
-    ensures stays { OnErr result ((h : History) → M.stands machine.old h → M.stands machine.new h) }
-    ensures unsound { result ≡ Err Stop.Unsound → (h : History) (shard : ℕ) (shards : List ℕ) → M.stands machine.old h → Fit at.0 (AtWork shard shards) h
-        → work (seen calendar h) shard at.0 ≡ Enter inc → ⊥ }
+    requires { at.0 ≤ LAST_MOMENT }
+    ensures lessens { OnOk result ((shard : ℕ) (shards : List ℕ) (told : Perhaps (List Handed))
+        → Does (M.stands machine.old) (M.stands machine.new) at.0 shard shards (IsNext at.0 shard (Enter inc)) told told) }
+    ensures stays { OnErr result (Keeps (M.stands machine.old) (M.stands machine.new)) }
+    ensures unsound { result ≡ Err Stop.Unsound → (shard : ℕ) (shards : List ℕ) → NeverWanted (M.stands machine.old) at.0 shard shards (IsNext at.0 shard (Enter inc)) }
 {
     // A machine that stands for a sound history names no such incarnation, and wants such instants alone.
     if inc == 0 {
@@ -82,15 +74,11 @@ pub(crate) fn close<M: Machine>(
     instant: u64,
     reason: Reason,
 ) -> Result<(), Stop>
-    requires { at.0 ≤ 7258118399 }
-    ensures closed { OnOk result ((h : History) (shard : ℕ) (shards : List ℕ) (told : Perhaps (List Handed)) → M.stands machine.old h
-        → Fit at.0 (AtWork shard shards) h → work (seen calendar h) shard at.0 ≡ Close inc instant reason
-        → Went (M.stands machine.new) at.0 (AtWork shard shards) h told (AtWork shard shards) told) }
-    ensures lessens { OnOk result ((h : History) (shard : ℕ) (shards : List ℕ) (told : Perhaps (List Handed)) → M.stands machine.old h
-        → Fit at.0 (AtWork shard shards) h → work (seen calendar h) shard at.0 ≡ Close inc instant reason → Lessened (M.stands machine.new) at.0 shard shards h told told) }
-    ensures stays { OnErr result ((h : History) → M.stands machine.old h → M.stands machine.new h) }
-    ensures unsound { result ≡ Err Stop.Unsound → (h : History) (shard : ℕ) (shards : List ℕ) → M.stands machine.old h → Fit at.0 (AtWork shard shards) h
-        → work (seen calendar h) shard at.0 ≡ Close inc instant reason → ⊥ }
+    requires { at.0 ≤ LAST_MOMENT }
+    ensures lessens { OnOk result ((shard : ℕ) (shards : List ℕ) (told : Perhaps (List Handed))
+        → Does (M.stands machine.old) (M.stands machine.new) at.0 shard shards (IsNext at.0 shard (Close inc instant reason)) told told) }
+    ensures stays { OnErr result (Keeps (M.stands machine.old) (M.stands machine.new)) }
+    ensures unsound { result ≡ Err Stop.Unsound → (shard : ℕ) (shards : List ℕ) → NeverWanted (M.stands machine.old) at.0 shard shards (IsNext at.0 shard (Close inc instant reason)) }
 {
     // A machine that stands for a sound history names no such occurrence.
     if inc == 0 || instant > LAST_MOMENT {

@@ -1,21 +1,21 @@
 //! The request of an attempt, made before the attempt is begun, and sent behind its Begin.
-ghost use Rattle.std.specs.Prelude.{◌≡◌, ◌<◌, ◌≤◌, ◌⊎◌, length, IfOk, IfSome};
-ghost use Rattle.std.specs.Option.{option_map};
+ghost use Rattle.std.specs.Prelude.{◌≡◌, ◌<◌, ◌≤◌, length, IfOk, IfSome};
 ghost use Rattle.sched_plain.specs.History.{History};
-ghost use Rattle.sched_plain.specs.Replies.{schedule_arn};
-ghost use Rattle.target_link.specs.declared.link.Answer.{Answer as Heard};
+ghost use Rattle.sched_plain.specs.Validity.{IsStatus};
+ghost use Rattle.sched_calls.specs.Replies.{schedule_arn};
+ghost use Rattle.target_link.specs.declared.link.Heard.{Heard as Heard};
 ghost use Rattle.target_link.specs.Told.{with_sent};
-ghost use Rattle.target_link.specs.Attempt.{request_text};
-ghost use Rattle.timer_work.specs.Sendings.{AnswerSays, AttemptSent, Request, facts_by, facts_of, request_for};
+ghost use Rattle.timer_work.specs.Ready.{request_in, request_within};
+ghost use Rattle.timer_work.specs.Sendings.{HeardSays, AttemptSent, facts_by, facts_of, request_by, request_for};
 
-use crate::arn::arn_of;
 use book_core::Machine;
-use sched_plain::{Name, Schedule, Text, TryCopy, Verdict};
+use plain_words::copy_option;
+use sched_calls::arn_of;
+use sched_plain::{LAST_MOMENT, Name, Schedule, Verdict};
 use std::alloc::{AllocError, Global};
-use target_link::{Address, BeginFacts, Link, SpotFault, address_of, request_of, verdict_of};
-
-/// The most bytes of a reply that are read.
-const LONGEST_REPLY: usize = 65_536;
+use target_link::{
+    Address, BeginFacts, LONGEST_REPLY, Link, SpotFault, address_of, request_of, verdict_of,
+};
 
 /// A request that is ready to be sent, with room for its reply.
 #[derive(Debug, Drop)]
@@ -23,15 +23,6 @@ pub(crate) struct ReadyRequest {
     to: Address,
     text: Vec<u8>,
     reply: Vec<u8>,
-}
-
-fn copy_input(input: &Option<Text>) -> Result<Option<Text>, AllocError>
-    ensures { IfOk result (λ copy. copy ≡ input.now) }
-{
-    match input {
-        Some(input) => Ok(Some(input.copy()?)),
-        None => Ok(None),
-    }
 }
 
 /// What the request of an attempt says, by the names and the content of its schedule.
@@ -58,7 +49,7 @@ fn facts_by(
         instant,
         number,
         spot,
-        input: copy_input(&content.input)?,
+        input: copy_option(&content.input)?,
     }))
 }
 
@@ -88,9 +79,9 @@ fn made_ready<L: Link>(
     link: &mut L,
     facts: &BeginFacts,
 ) -> Result<ReadyRequest, AllocError>
-    requires { facts.now.instant ≤ 7258118399 }
-    ensures request { IfOk result (λ p. (p.to ≡ facts.now.spot.address) × (p.text.items ≡ request_text facts.now)) }
-    ensures ready { IfOk result (λ p. (0 < L.sends_left link.new) × (length p.text.items ≤ L.most_bytes link.new)) }
+    requires { facts.now.instant ≤ LAST_MOMENT }
+    ensures request { IfOk result (λ ready. request_in ready ≡ request_by facts.now) }
+    ensures ready { IfOk result (λ ready. (0 < L.sends_left link.new) × (length ready.text.items ≤ L.most_bytes link.new)) }
     ensures told { L.told link.new ≡ L.told link.old }
     ensures losses { L.losses link.new ≡ L.losses link.old }
 {
@@ -113,9 +104,9 @@ pub(crate) fn prepare<M: Machine, L: Link>(
     instant: u64,
     number: u16,
 ) -> Result<Option<ReadyRequest>, AllocError>
-    requires { instant ≤ 7258118399 }
-    ensures request { (h : History) → M.stands machine.now h → IfOk result (λ p. option_map (λ p. record { to = p.to; text = p.text.items }) p ≡ request_for h inc instant number) }
-    ensures ready { IfOk result (λ p. IfSome p (λ p. (0 < L.sends_left link.new) × (length p.text.items ≤ L.most_bytes link.new))) }
+    requires { instant ≤ LAST_MOMENT }
+    ensures request { (h : History) → M.stands machine.now h → IfOk result (λ ready. request_within ready ≡ request_for h inc instant number) }
+    ensures ready { IfOk result (λ ready. IfSome ready (λ ready. (0 < L.sends_left link.new) × (length ready.text.items ≤ L.most_bytes link.new))) }
     ensures told { L.told link.new ≡ L.told link.old }
     ensures losses { L.losses link.new ≡ L.losses link.old }
 {
@@ -129,8 +120,8 @@ pub(crate) fn prepare<M: Machine, L: Link>(
 fn send_ready<L: Link>(link: &mut L, request: ReadyRequest) -> (Verdict, u16)
     requires sends { 0 < L.sends_left link.old }
     requires fits { length request.text.items ≤ L.most_bytes link.old }
-    ensures sent { (answer : Heard) × (L.told link.new ≡ with_sent request.to request.text.items answer (L.told link.old)) × AnswerSays answer result.0 result.1 }
-    ensures status { (result.1 ≡ 0) ⊎ ((100 ≤ result.1) × (result.1 ≤ 999)) }
+    ensures sent { (answer : Heard) × (L.told link.new ≡ with_sent request.to request.text.items (length request.reply.items) answer (L.told link.old)) × HeardSays answer result.0 result.1 }
+    ensures status { IsStatus result.1 }
     ensures losses { L.losses link.old ≤ L.losses link.new }
 {
     let mut request = request;
@@ -142,9 +133,9 @@ fn send_ready<L: Link>(link: &mut L, request: ReadyRequest) -> (Verdict, u16)
 
 /// Sends the request of an attempt, where it has one; the answer is what its reply says of the attempt.
 pub(crate) fn send<L: Link>(link: &mut L, request: Option<ReadyRequest>) -> (Verdict, u16)
-    requires { IfSome request (λ p. (0 < L.sends_left link.old) × (length p.text.items ≤ L.most_bytes link.old)) }
-    ensures sent { AttemptSent (option_map (λ p. record { to = p.to; text = p.text.items }) request) (L.told link.old) (L.told link.new) result.0 result.1 }
-    ensures status { (result.1 ≡ 0) ⊎ ((100 ≤ result.1) × (result.1 ≤ 999)) }
+    requires { IfSome request (λ ready. (0 < L.sends_left link.old) × (length ready.text.items ≤ L.most_bytes link.old)) }
+    ensures sent { AttemptSent (request_within request) (L.told link.old) (L.told link.new) result.0 result.1 }
+    ensures status { IsStatus result.1 }
     ensures losses { L.losses link.old ≤ L.losses link.new }
 {
     match request {

@@ -1,20 +1,16 @@
 //! One shard: taken, worked until it is settled, swept and given back.
-ghost use Rattle.std.specs.Prelude.{◌≡◌, ◌≢◌, ℕ, ◌≤◌, ◌∷◌, List, Err, OnOk, OnErr};
+ghost use Rattle.std.specs.Prelude.{◌≡◌, ◌≢◌, ℕ, ◌<◌, ◌≤◌, ◌∷◌, List, Err, OnOk, OnErr};
 ghost use Rattle.std.specs.Prelude.{Option as Perhaps};
 ghost use Rattle.sched_plain.specs.declared.work.Work.TheVariants.{Settled};
-ghost use Rattle.sched_plain.specs.History.{History};
-ghost use Rattle.sched_plain.specs.Seen.{seen};
-ghost use Rattle.sched_plain.specs.Work.{work};
-ghost use Rattle.book_core.specs.InUse.{calendar};
 ghost use Rattle.target_link.specs.declared.link.Sent.{Sent as Handed};
-ghost use Rattle.timer_work.specs.Loads.{Lessened};
-ghost use Rattle.timer_work.specs.Sweeping.{Before, AtWork, Unreleased, Fit, Went, Stopped};
+ghost use Rattle.timer_work.specs.Parts.{Keeps, Goes, Stops, Never, IsNext, Does, StopsAtWork, NeverWanted, Settles, MarksSwept};
+ghost use Rattle.timer_work.specs.Sweeping.{Before, AtWork, Unreleased};
 
 use crate::sweep::attempt::attempt;
 use crate::sweep::entry::{close, enter};
 use crate::sweep::steps::{Stop, take};
 use book_core::Machine;
-use sched_plain::{LEASE_SECONDS, Moment, Step, Work};
+use sched_plain::{LAST_MOMENT, LEASE_SECONDS, Moment, SHARDS, Step, Work};
 use std::alloc::Global;
 use target_link::Link;
 
@@ -23,12 +19,11 @@ const SWEEPER: u32 = 0;
 
 /// Takes a shard. An epoch past 2^64 - 1 cannot be counted: that wants more steps than there is memory for.
 fn take_shard<M: Machine>(machine: &mut M, at: Moment, shard: u8) -> Result<(), Stop>
-    requires at { at.0 ≤ 7258118399 }
-    requires shard { shard ≤ 7 }
-    ensures taken { OnOk result ((h : History) (shards : List ℕ) (told : Perhaps (List Handed)) → M.stands machine.old h → Fit at.0 (Before (shard ∷ shards)) h
-        → Went (M.stands machine.new) at.0 (Before (shard ∷ shards)) h told (AtWork shard shards) told) }
-    ensures stays { OnErr result ((h : History) → M.stands machine.old h → M.stands machine.new h) }
-    ensures unsound { result ≡ Err Stop.Unsound → (h : History) (shards : List ℕ) → M.stands machine.old h → Fit at.0 (Before (shard ∷ shards)) h → ⊥ }
+    requires at { at.0 ≤ LAST_MOMENT }
+    requires shard { shard < SHARDS }
+    ensures taken { OnOk result ((shards : List ℕ) (told : Perhaps (List Handed)) → Goes (M.stands machine.old) (M.stands machine.new) at.0 (Before (shard ∷ shards)) told (AtWork shard shards) told) }
+    ensures stays { OnErr result (Keeps (M.stands machine.old) (M.stands machine.new)) }
+    ensures unsound { result ≡ Err Stop.Unsound → (shards : List ℕ) → Never (M.stands machine.old) at.0 (Before (shard ∷ shards)) }
 {
     let Some(epoch) = machine.holder(shard).epoch.checked_add(1) else {
         return Err(Stop::OutOfMemory);
@@ -52,17 +47,10 @@ fn do_next<M: Machine, L: Link>(
     next: Work,
     link: &mut L,
 ) -> Result<(), Stop>
-    requires { at.0 ≤ 7258118399 }
-    ensures done { OnOk result ((h : History) (shard : ℕ) (shards : List ℕ) → M.stands machine.old h → Fit at.0 (AtWork shard shards) h
-        → work (seen calendar h) shard at.0 ≡ next
-        → Went (M.stands machine.new) at.0 (AtWork shard shards) h (L.told link.old) (AtWork shard shards) (L.told link.new)) }
-    ensures lessens { OnOk result ((h : History) (shard : ℕ) (shards : List ℕ) → M.stands machine.old h → Fit at.0 (AtWork shard shards) h
-        → work (seen calendar h) shard at.0 ≡ next → Lessened (M.stands machine.new) at.0 shard shards h (L.told link.old) (L.told link.new)) }
-    ensures stopped { OnErr result ((h : History) (shard : ℕ) (shards : List ℕ) → M.stands machine.old h → Fit at.0 (AtWork shard shards) h
-        → work (seen calendar h) shard at.0 ≡ next
-        → Stopped (M.stands machine.new) at.0 (AtWork shard shards) h (L.told link.old) (L.told link.new)) }
-    ensures unsound { result ≡ Err Stop.Unsound → (h : History) (shard : ℕ) (shards : List ℕ) → M.stands machine.old h → Fit at.0 (AtWork shard shards) h
-        → work (seen calendar h) shard at.0 ≡ next → next ≢ Settled → ⊥ }
+    requires { at.0 ≤ LAST_MOMENT }
+    ensures lessens { OnOk result ((shard : ℕ) (shards : List ℕ) → Does (M.stands machine.old) (M.stands machine.new) at.0 shard shards (IsNext at.0 shard next) (L.told link.old) (L.told link.new)) }
+    ensures stopped { OnErr result ((shard : ℕ) (shards : List ℕ) → StopsAtWork (M.stands machine.old) (M.stands machine.new) at.0 shard shards (IsNext at.0 shard next) (L.told link.old) (L.told link.new)) }
+    ensures unsound { result ≡ Err Stop.Unsound → next ≢ Settled → (shard : ℕ) (shards : List ℕ) → NeverWanted (M.stands machine.old) at.0 shard shards (IsNext at.0 shard next) }
     ensures losses { L.losses link.old ≤ L.losses link.new }
 {
     match next {
@@ -85,14 +73,11 @@ fn work_until_settled<M: Machine, L: Link>(
     shard: u8,
     link: &mut L,
 ) -> Result<(), Stop>
-    requires at { at.0 ≤ 7258118399 }
-    requires shard { shard ≤ 7 }
-    ensures settled { OnOk result ((h : History) (shards : List ℕ) → M.stands machine.old h → Fit at.0 (AtWork shard shards) h
-        → (went : Went (M.stands machine.new) at.0 (AtWork shard shards) h (L.told link.old) (AtWork shard shards) (L.told link.new))
-        × (work (seen calendar went.after) shard at.0 ≡ Settled)) }
-    ensures stopped { OnErr result ((h : History) (shards : List ℕ) → M.stands machine.old h → Fit at.0 (AtWork shard shards) h
-        → Stopped (M.stands machine.new) at.0 (AtWork shard shards) h (L.told link.old) (L.told link.new)) }
-    ensures unsound { result ≡ Err Stop.Unsound → (h : History) (shards : List ℕ) → M.stands machine.old h → Fit at.0 (AtWork shard shards) h → ⊥ }
+    requires at { at.0 ≤ LAST_MOMENT }
+    requires shard { shard < SHARDS }
+    ensures settled { OnOk result ((shards : List ℕ) → Settles (M.stands machine.old) (M.stands machine.new) at.0 shard shards (L.told link.old) (L.told link.new)) }
+    ensures stopped { OnErr result ((shards : List ℕ) → Stops (M.stands machine.old) (M.stands machine.new) at.0 (AtWork shard shards) (L.told link.old) (L.told link.new)) }
+    ensures unsound { result ≡ Err Stop.Unsound → (shards : List ℕ) → Never (M.stands machine.old) at.0 (AtWork shard shards) }
     ensures losses { L.losses link.old ≤ L.losses link.new }
 {
     // A shard has at most three works for each of fewer than 2^32 schedules, so it is settled before the bound.
@@ -110,14 +95,11 @@ fn work_until_settled<M: Machine, L: Link>(
 
 /// Marks a shard swept whose work is settled.
 fn mark_swept<M: Machine>(machine: &mut M, at: Moment, shard: u8) -> Result<(), Stop>
-    requires at { at.0 ≤ 7258118399 }
-    requires shard { shard ≤ 7 }
-    ensures swept { OnOk result ((h : History) (shards : List ℕ) (told : Perhaps (List Handed)) → M.stands machine.old h → Fit at.0 (AtWork shard shards) h
-        → work (seen calendar h) shard at.0 ≡ Settled
-        → Went (M.stands machine.new) at.0 (AtWork shard shards) h told (Unreleased shard shards) told) }
-    ensures stays { OnErr result ((h : History) → M.stands machine.old h → M.stands machine.new h) }
-    ensures unsound { result ≡ Err Stop.Unsound → (h : History) (shards : List ℕ) → M.stands machine.old h → Fit at.0 (AtWork shard shards) h
-        → work (seen calendar h) shard at.0 ≡ Settled → ⊥ }
+    requires at { at.0 ≤ LAST_MOMENT }
+    requires shard { shard < SHARDS }
+    ensures swept { OnOk result ((shards : List ℕ) (told : Perhaps (List Handed)) → MarksSwept (M.stands machine.old) (M.stands machine.new) at.0 shard shards told) }
+    ensures stays { OnErr result (Keeps (M.stands machine.old) (M.stands machine.new)) }
+    ensures unsound { result ≡ Err Stop.Unsound → (shards : List ℕ) → NeverWanted (M.stands machine.old) at.0 shard shards (IsNext at.0 shard Settled) }
 {
     take(machine, Step::Swept { at, shard })?;
     Ok(())
@@ -125,12 +107,11 @@ fn mark_swept<M: Machine>(machine: &mut M, at: Moment, shard: u8) -> Result<(), 
 
 /// Gives a shard back.
 fn release<M: Machine>(machine: &mut M, at: Moment, shard: u8) -> Result<(), Stop>
-    requires at { at.0 ≤ 7258118399 }
-    requires shard { shard ≤ 7 }
-    ensures released { OnOk result ((h : History) (shards : List ℕ) (told : Perhaps (List Handed)) → M.stands machine.old h → Fit at.0 (Unreleased shard shards) h
-        → Went (M.stands machine.new) at.0 (Unreleased shard shards) h told (Before shards) told) }
-    ensures stays { OnErr result ((h : History) → M.stands machine.old h → M.stands machine.new h) }
-    ensures unsound { result ≡ Err Stop.Unsound → (h : History) (shards : List ℕ) → M.stands machine.old h → Fit at.0 (Unreleased shard shards) h → ⊥ }
+    requires at { at.0 ≤ LAST_MOMENT }
+    requires shard { shard < SHARDS }
+    ensures released { OnOk result ((shards : List ℕ) (told : Perhaps (List Handed)) → Goes (M.stands machine.old) (M.stands machine.new) at.0 (Unreleased shard shards) told (Before shards) told) }
+    ensures stays { OnErr result (Keeps (M.stands machine.old) (M.stands machine.new)) }
+    ensures unsound { result ≡ Err Stop.Unsound → (shards : List ℕ) → Never (M.stands machine.old) at.0 (Unreleased shard shards) }
 {
     let epoch = machine.holder(shard).epoch;
     let release = Step::Release {
@@ -151,13 +132,11 @@ pub(crate) fn sweep_shard<M: Machine, L: Link>(
     shard: u8,
     link: &mut L,
 ) -> Result<(), Stop>
-    requires at { at.0 ≤ 7258118399 }
-    requires shard { shard ≤ 7 }
-    ensures swept { OnOk result ((h : History) (shards : List ℕ) → M.stands machine.old h → Fit at.0 (Before (shard ∷ shards)) h
-        → Went (M.stands machine.new) at.0 (Before (shard ∷ shards)) h (L.told link.old) (Before shards) (L.told link.new)) }
-    ensures stopped { OnErr result ((h : History) (shards : List ℕ) → M.stands machine.old h → Fit at.0 (Before (shard ∷ shards)) h
-        → Stopped (M.stands machine.new) at.0 (Before (shard ∷ shards)) h (L.told link.old) (L.told link.new)) }
-    ensures unsound { result ≡ Err Stop.Unsound → (h : History) (shards : List ℕ) → M.stands machine.old h → Fit at.0 (Before (shard ∷ shards)) h → ⊥ }
+    requires at { at.0 ≤ LAST_MOMENT }
+    requires shard { shard < SHARDS }
+    ensures swept { OnOk result ((shards : List ℕ) → Goes (M.stands machine.old) (M.stands machine.new) at.0 (Before (shard ∷ shards)) (L.told link.old) (Before shards) (L.told link.new)) }
+    ensures stopped { OnErr result ((shards : List ℕ) → Stops (M.stands machine.old) (M.stands machine.new) at.0 (Before (shard ∷ shards)) (L.told link.old) (L.told link.new)) }
+    ensures unsound { result ≡ Err Stop.Unsound → (shards : List ℕ) → Never (M.stands machine.old) at.0 (Before (shard ∷ shards)) }
     ensures losses { L.losses link.old ≤ L.losses link.new }
 {
     if let Err(stop) = take_shard(machine, at, shard) {

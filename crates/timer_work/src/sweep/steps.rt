@@ -1,11 +1,12 @@
 //! Steps that a sweep adds.
-ghost use Rattle.std.specs.Prelude.{◌≡◌, ◌≤◌, OnOk, OnErr, Err};
+ghost use Rattle.std.specs.Prelude.{◌≡◌, ◌≢◌, ◌≤◌, OnOk, OnErr, Err};
 ghost use Rattle.sched_plain.specs.History.{History, ◌upon◌};
 ghost use Rattle.sched_plain.specs.Legal.{MayFollow};
 ghost use Rattle.sched_plain.specs.Validity.{IsValid};
 ghost use Rattle.book_core.specs.InUse.{calendar};
 ghost use Rattle.book_core.specs.Form.{IsFirstForm};
 ghost use Rattle.book_core.specs.Answers.{IsEnd};
+ghost use Rattle.timer_work.specs.Parts.{Keeps};
 
 use book_core::{LegalFault, Machine};
 use sched_plain::Step;
@@ -25,7 +26,7 @@ pub(crate) fn take<M: Machine>(machine: &mut M, step: Step) -> Result<(), Stop>
     requires form { IsFirstForm step }
     ensures taken { OnOk result ((h : History) → M.stands machine.old h → M.stands machine.new (step upon h)) }
     ensures follows { OnOk result ((h : History) → M.stands machine.old h → MayFollow calendar h step) }
-    ensures stays { OnErr result ((h : History) → M.stands machine.old h → M.stands machine.new h) }
+    ensures stays { OnErr result (Keeps (M.stands machine.old) (M.stands machine.new)) }
     ensures unsound { result ≡ Err Stop.Unsound → (h : History) → M.stands machine.old h → MayFollow calendar h step → ⊥ }
 {
     if machine.reserve(&step).is_err() {
@@ -47,12 +48,14 @@ pub(crate) fn finish<M: Machine>(machine: &mut M, end: Step) -> Result<(), Stop>
     requires ends { IsEnd end }
     ensures taken { OnOk result ((h : History) → M.stands machine.old h → M.stands machine.new (end upon h)) }
     ensures follows { OnOk result ((h : History) → M.stands machine.old h → MayFollow calendar h end) }
-    ensures stays { OnErr result ((h : History) → M.stands machine.old h → M.stands machine.new h) }
+    ensures wants_nothing { result ≢ Err Stop.OutOfMemory }
+    ensures stays { OnErr result (Keeps (M.stands machine.old) (M.stands machine.new)) }
     ensures unsound { result ≡ Err Stop.Unsound → (h : History) → M.stands machine.old h → MayFollow calendar h end → ⊥ }
 {
     match machine.legal(&end) {
         Ok(()) => {}
-        Err(LegalFault::OutOfMemory) => return Err(Stop::OutOfMemory),
+        // A machine judges an End without memory.
+        Err(LegalFault::OutOfMemory) => unreachable!(),
         Err(LegalFault::Why(_)) => return Err(Stop::Unsound),
     }
     machine.apply(end);

@@ -1,6 +1,6 @@
 use Rattle.std.proofs.Common.{ap, Ok, ◌∙◌}
-use Rattle.sched_plain.specs.declared.expression.Expr.TheVariants as exprs
-use Rattle.cron_search.proofs.RealSeconds.{is_civil-true}
+use Rattle.expressions.specs.declared.expression.Expr.TheVariants as exprs
+use Rattle.expressions.proofs.RealSeconds.{is_civil-true}
 use Rattle.zone_times.proofs.read_civil.Goals as goal
 
 pub returns : goal.returns

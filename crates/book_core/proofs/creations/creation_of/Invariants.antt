@@ -1,5 +1,5 @@
 use Rattle.std.proofs.Common.{◌≡◌, drop}
-use Rattle.sched_plain.specs.Lists.{nth}
+use Rattle.plain_words.specs.Lists.{nth}
 use Rattle.book_core.specs.Made.{creations}
 use Rattle.book_core.proofs.creations.creation_of.Given as goal
 

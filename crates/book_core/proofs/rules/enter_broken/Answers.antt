@@ -1,7 +1,7 @@
 use Rattle.std.proofs.Common.{ℕ, Option, List, ◌∙◌, sym, ap}
 use Rattle.std.specs.Option.{option_to_list}
 use Rattle.sched_plain.specs.declared.step.Pair.{Pair}
-use Rattle.sched_plain.specs.Lists.{first_some}
+use Rattle.plain_words.specs.Lists.{first_some}
 use Rattle.sched_plain.specs.Rules.{enter_table, first_astray}
 use Rattle.book_core.specs.declared.track.Origin.{Origin}
 use Rattle.book_core.specs.State.{history_of}

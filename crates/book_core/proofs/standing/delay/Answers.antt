@@ -2,9 +2,9 @@ use Rattle.std.proofs.Common.{◌-◌, ◌^◌, ◌≤◌, arith}
 use Rattle.std.proofs.Math.Nat.{pow-le-pow_right}
 use Rattle.book_core.proofs.standing.delay.Goals as goal
 
-pub returns-then-number-gt10-clause-value : goal.returns-then-number-gt10-clause-value
-returns-then-number-gt10-clause-value c =
-    let few : 10 ≤ c.args.number - 1 = omega (arith, c.if-number-gt10.true) in
+pub returns-then-number-gt-LAST_DOUBLED-clause-value : goal.returns-then-number-gt-LAST_DOUBLED-clause-value
+returns-then-number-gt-LAST_DOUBLED-clause-value c =
+    let few : 10 ≤ c.args.number - 1 = omega (arith, c.if-number-gt-LAST_DOUBLED.true) in
     let big : 2 ^ 10 ≤ 2 ^ (c.args.number - 1) = pow-le-pow_right {n = 2} (omega arith) few in
     let long : 900 ≤ 2 ^ (c.args.number - 1) = omega arith in
     omega arith

@@ -2,8 +2,8 @@ use Rattle.std.proofs.Common.{◌≡◌, ◌+◌, ◌-◌, sym, ◌∙◌, ap, �
 use Rattle.std.specs.Prelude.{◌==◌}
 use Rattle.std.proofs.lemmas.Bool.{ne_eqb}
 use Rattle.std.specs.List.{filter}
-use Rattle.sched_plain.specs.Ids.{shard_of}
-use Rattle.sched_plain.specs.Lists.{first_answer, numbers}
+use Rattle.plain_words.specs.Ids.{shard_of}
+use Rattle.plain_words.specs.Lists.{first_answer, numbers}
 use Rattle.sched_plain.specs.Work.{of_shard}
 use Rattle.book_core.specs.State.{history_of}
 use Rattle.book_core.specs.Questions.{inc_answer}

@@ -1,7 +1,7 @@
 use Rattle.std.proofs.Common.{◌≡◌, ◌-◌, ◌≤◌}
 use Rattle.cron_search.specs.Levels.{date_key, IsInYear}
 use Rattle.cron_search.specs.declared.date.Date.{Date}
-use Rattle.sched_plain.specs.declared.expression.CronSets.{CronSets}
+use Rattle.expressions.specs.declared.expression.CronSets.{CronSets}
 use Rattle.cron_search.proofs.date.next_in_year.Given as goal
 
 -- what the search knows at `cursor`: nothing that is allowed lies between `from` and it

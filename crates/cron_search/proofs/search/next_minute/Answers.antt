@@ -2,7 +2,7 @@ use Rattle.std.proofs.Common.{◌+◌, ◌*◌, ◌≤◌, arith, inl, inr}
 use Rattle.std.proofs.lemmas.Bool.{cases_lt}
 use Rattle.cron_search.specs.Levels.{day_key, date_key, minute_of_day, minute_key}
 use Rattle.cron_search.specs.Search.{IsFittingMinute}
-use Rattle.sched_plain.specs.declared.expression.Civil.{Civil}
+use Rattle.expressions.specs.declared.expression.Civil.{Civil}
 use Rattle.cron_search.proofs.Minutes.{date_of, time_of, fitting_time, first_from, none_from}
 use Rattle.cron_search.proofs.search.next_minute.Goals as goal
 

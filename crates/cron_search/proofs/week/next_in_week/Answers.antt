@@ -1,8 +1,8 @@
 use Rattle.std.proofs.Common.{◌≡◌, ℕ, ◌+◌, ◌-◌, ◌%◌, ◌≤◌, refl, arith, IsTrue, sym, ◌∙◌}
-use Rattle.cron_search.specs.Calendar.{IsCivilDate, month_length, weekday_of, weekday_after}
+use Rattle.cron_search.specs.CivilTime.{IsCivilDate, month_length, weekday_of, weekday_after}
 use Rattle.cron_search.specs.Fit.{fits_day, has_value}
 use Rattle.cron_search.specs.Levels.{IsFittingDay}
-use Rattle.sched_plain.specs.declared.expression.DayRule.TheVariants.{OfWeek}
+use Rattle.expressions.specs.declared.expression.DayRule.TheVariants.{OfWeek}
 use Rattle.cron_search.proofs.MonthDays.{in_step}
 use Rattle.cron_search.proofs.week.next_in_week.Goals as goal
 

@@ -1,7 +1,7 @@
 use Rattle.std.proofs.Common.{◌≡◌, drop}
 use Rattle.std.specs.Prelude.{map, codes}
-use Rattle.sched_plain.specs.Pieces.{same}
-use Rattle.sched_plain.specs.ExpressionFaults.{masked}
+use Rattle.expressions.specs.Pieces.{same}
+use Rattle.expressions.specs.ExpressionFaults.{masked}
 use Rattle.expr_grammar.proofs.at.has_form.Given as goal
 
 abbrev pub invariant-loop-at : goal.invariant-loop-at

@@ -1,6 +1,6 @@
 use Rattle.std.proofs.Common.{◌≡◌, ◌^◌, ◌<◌, true, drop}
 use Rattle.std.specs.List.{list_all}
-use Rattle.sched_plain.specs.Pieces.{is_digit, number_from, number_of}
+use Rattle.expressions.specs.Pieces.{is_digit, number_from, number_of}
 use Rattle.expr_grammar.proofs.bytes.number.Given as goal
 
 abbrev pub invariant-loop-byte : goal.invariant-loop-byte

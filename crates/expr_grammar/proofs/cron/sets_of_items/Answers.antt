@@ -1,5 +1,5 @@
 use Rattle.std.proofs.Common.{refl, sym, ◌∙◌, lit<, lit≤}
-use Rattle.sched_plain.specs.CronItems as cron
+use Rattle.expressions.specs.CronItems as cron
 use Rattle.expr_grammar.proofs.SetLaws.{small_rule}
 use Rattle.expr_grammar.proofs.CronLaws.{cron_answer, days_fault_is}
 use Rattle.expr_grammar.proofs.cron.sets_of_items.Goals as goal

@@ -1,5 +1,5 @@
 use Rattle.std.proofs.Common.{◌≡◌, ◌+◌}
-use Rattle.sched_plain.specs.CronItems.{bits_below, contains}
+use Rattle.expressions.specs.CronItems.{bits_below, contains}
 use Rattle.expr_grammar.specs.Items.{item_of}
 use Rattle.expr_grammar.proofs.items.bits_from.Given as goal
 

@@ -1,6 +1,6 @@
 use Rattle.std.proofs.Common.{ℕ, List, ◌++◌, ◌∙◌, ap, subst, sym}
-use Rattle.sched_plain.specs.Canonical.{canonical}
-use Rattle.sched_plain.specs.Spelling.{Spells}
+use Rattle.expressions.specs.Canonical.{canonical}
+use Rattle.expressions.specs.Spelling.{Spells}
 use Rattle.expr_grammar.proofs.CanonicalLaws.{canonical_spells}
 use Rattle.expr_grammar.proofs.print.print_expr.Goals as goal
 

@@ -1,6 +1,6 @@
 use Rattle.std.proofs.Common.{◌∙◌, ◌-◌, ◌++◌, ap, sym}
-use Rattle.sched_plain.specs.Canonical.{begins_run, run_end, run_text}
-use Rattle.sched_plain.specs.CronItems as cron
+use Rattle.expressions.specs.Canonical.{begins_run, run_end, run_text}
+use Rattle.expressions.specs.CronItems as cron
 use Rattle.expr_grammar.specs.Items.{field_of}
 use Rattle.expr_grammar.specs.ValueSets.{holds}
 use Rattle.expr_grammar.proofs.PrintLaws.{printed_one}

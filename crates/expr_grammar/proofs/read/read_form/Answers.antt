@@ -1,5 +1,5 @@
 use Rattle.std.specs.Prelude.{codes}
-use Rattle.sched_plain.specs.ExpressionFaults.{at_fault, cron_fault, rate_fault, words_fault}
+use Rattle.expressions.specs.ExpressionFaults.{at_fault, cron_fault, rate_fault, words_fault}
 use Rattle.expr_grammar.specs.Answers.{enclosed}
 use Rattle.expr_grammar.proofs.Laws.{answers_of_form, fault_of_at, fault_of_cron, fault_of_rate, no_form}
 use Rattle.expr_grammar.proofs.read.read_form.Goals as goal

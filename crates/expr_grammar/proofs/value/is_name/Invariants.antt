@@ -1,5 +1,5 @@
 use Rattle.std.proofs.Common.{◌≡◌, drop}
-use Rattle.sched_plain.specs.Pieces.{same, upper}
+use Rattle.expressions.specs.Pieces.{same, upper}
 use Rattle.expr_grammar.proofs.value.is_name.Given as goal
 
 abbrev pub invariant-loop-at : goal.invariant-loop-at

@@ -1,6 +1,6 @@
 use Rattle.std.proofs.Common.{◌≡◌, ◌+◌, drop}
-use Rattle.sched_plain.specs.Pieces.{upper}
-use Rattle.sched_plain.specs.CronItems.{place_from}
+use Rattle.expressions.specs.Pieces.{upper}
+use Rattle.expressions.specs.CronItems.{place_from}
 use Rattle.expr_grammar.proofs.value.place_of.Given as goal
 
 abbrev pub invariant-loop-name : goal.invariant-loop-name

@@ -1,6 +1,6 @@
 use Rattle.std.proofs.Common.{◌≡◌, ◌≤◌, ◌+◌, ◌-◌}
-use Rattle.sched_plain.specs.Canonical.{all_pass}
-use Rattle.sched_plain.specs.CronItems as cron
+use Rattle.expressions.specs.Canonical.{all_pass}
+use Rattle.expressions.specs.CronItems as cron
 use Rattle.expr_grammar.specs.Items.{field_of}
 use Rattle.expr_grammar.specs.ValueSets.{holds}
 use Rattle.expr_grammar.proofs.value_set.is_full.Given as goal

@@ -1,5 +1,5 @@
 use Rattle.std.proofs.Common.{◌∙◌, arith, rules}
-use Rattle.sched_plain.specs.CronItems as cron
+use Rattle.expressions.specs.CronItems as cron
 use Rattle.expr_grammar.specs.Items.{field_of}
 use Rattle.expr_grammar.specs.ValueSets.{holds}
 use Rattle.expr_grammar.proofs.PrintLaws.{end_more}

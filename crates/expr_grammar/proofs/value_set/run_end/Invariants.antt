@@ -1,6 +1,6 @@
 use Rattle.std.proofs.Common.{◌≡◌, ◌≤◌, ◌+◌, ◌-◌}
-use Rattle.sched_plain.specs.Canonical.{run_end}
-use Rattle.sched_plain.specs.CronItems as cron
+use Rattle.expressions.specs.Canonical.{run_end}
+use Rattle.expressions.specs.CronItems as cron
 use Rattle.expr_grammar.specs.Items.{field_of}
 use Rattle.expr_grammar.specs.ValueSets.{holds}
 use Rattle.expr_grammar.proofs.value_set.run_end.Given as goal

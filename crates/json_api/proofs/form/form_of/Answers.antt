@@ -6,7 +6,7 @@ returns-in-Some-2 c =
     let call = rw c.in-Some-2.is at c.in_ok-call.ensures in
     record {
       method = rw c.as_bytes.ensures at (c.is_post.ensures.0 c.if-not-is_post.false);
-      told = sym (rw c.as_slice.ensures at c.told_by.ensures) ∙ c.in-Some.is;
+      stated = sym (rw c.as_slice.ensures at c.stated_by.ensures) ∙ c.in-Some.is;
       call = rw (c.path_of-path.ensures, c.as_bytes-2.ensures, c.as_bytes-3.ensures) at call;
     }
 

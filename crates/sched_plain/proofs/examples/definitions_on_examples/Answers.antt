@@ -1,4 +1,4 @@
-use Rattle.sched_plain.proofs.Histories.{sweeps_are_legal, broken_steps, standings, letters_and_marks, occurring, reported, attempting, serves_rows}
+use Rattle.sched_plain.proofs.Histories.{sweeps_are_legal, broken_steps, finishing, standings, letters_and_marks, occurring, reported, attempting}
 use Rattle.sched_plain.proofs.examples.definitions_on_examples.Goals as goal
 
 pub returns-clause-sweeps : goal.returns-clause-sweeps
@@ -22,5 +22,5 @@ returns-clause-reports c = reported
 pub returns-clause-attempts : goal.returns-clause-attempts
 returns-clause-attempts c = attempting
 
-pub returns-clause-served : goal.returns-clause-served
-returns-clause-served c = serves_rows
+pub returns-clause-finishing : goal.returns-clause-finishing
+returns-clause-finishing c = finishing

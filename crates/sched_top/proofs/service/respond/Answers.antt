@@ -1,6 +1,5 @@
 use Rattle.std.proofs.Common.{refl, inl}
-use Rattle.book_core.proofs.BookLemmas.{if_ok}
-use Rattle.sched_top.proofs.ServingLemmas.{on_err, on_err_map, if_ok_under, turn_still, refused_neither}
+use Rattle.sched_top.proofs.ServingLemmas.{if_ok, on_err, on_err_map, if_ok_under, turn_still, refused_neither}
 use Rattle.sched_top.proofs.service.respond.Goals as goal
 
 pub returns-in-Ok-Some-clause-ok : goal.returns-in-Ok-Some-clause-ok

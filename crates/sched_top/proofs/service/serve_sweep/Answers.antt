@@ -1,5 +1,4 @@
-use Rattle.book_core.proofs.BookLemmas.{if_ok}
-use Rattle.sched_top.proofs.ServingLemmas.{on_err, sweep_served, sweep_wanting, sweep_cut}
+use Rattle.sched_top.proofs.ServingLemmas.{if_ok, on_err, sweep_served, sweep_wanting, sweep_cut}
 use Rattle.sched_top.proofs.service.serve_sweep.Goals as goal
 
 pub returns-in-Ok-clause-ok : goal.returns-in-Ok-clause-ok

@@ -1,20 +1,12 @@
 use Rattle.std.proofs.Common.{arith, ◌≡◌, pos}
+use Rattle.std.proofs.lemmas.Int.{ints}
 use Rattle.jiff_core.specs.Date.{epoch_day}
-use Rattle.jiff_core.proofs.SignedLemmas.{signed_arith}
 use Rattle.target_link.proofs.DayLemmas.{date_is}
 use Rattle.target_link.proofs.time.date_of.Goals as goal
 
-pub returns-clause-year : goal.returns-clause-year
-returns-clause-year c =
-    let number : epoch_day c.from_days_since_min.result ≡ pos c.args.days = omega (arith, signed_arith, c.from_days_since_min.ensures) in
-    (date_is c.from_days_since_min.result c.args.days (omega arith) number).0
-
-pub returns-clause-month : goal.returns-clause-month
-returns-clause-month c =
-    let number : epoch_day c.from_days_since_min.result ≡ pos c.args.days = omega (arith, signed_arith, c.from_days_since_min.ensures) in
-    (date_is c.from_days_since_min.result c.args.days (omega arith) number).1
-
-pub returns-clause-day : goal.returns-clause-day
-returns-clause-day c =
-    let number : epoch_day c.from_days_since_min.result ≡ pos c.args.days = omega (arith, signed_arith, c.from_days_since_min.ensures) in
-    (date_is c.from_days_since_min.result c.args.days (omega arith) number).2
+pub returns : goal.returns
+returns c =
+    let value = rw c.unwrap.ensures at c.from_unix_epoch_day.ensures.value in
+    let number : epoch_day c.unwrap.result ≡ pos c.args.days = omega (arith, ints, value, c.from.ensures) in
+    let date = date_is c.unwrap.result c.args.days (omega arith) number in
+    record { year = date.0; month = date.1; day = date.2 }

@@ -1,6 +1,7 @@
 use Rattle.std.proofs.Common.{◌∙◌, ◌∷◌, ◌-◌, ◌+◌, List, ℕ, subst, arith}
-use Rattle.sched_plain.specs.Lists.{numbers}
-use Rattle.sched_plain.specs.Serves.{all_shards}
+use Rattle.plain_words.specs.Lists.{numbers}
+use Rattle.sched_calls.specs.Serves.{all_shards}
+use Rattle.plain_words.specs.declared.limits.TheConstants.{SHARDS}
 use Rattle.timer_work.specs.Sweeping.{Before, Went}
 use Rattle.timer_work.proofs.WentLemmas.{went_nowhere, went_on, stopped_on}
 use Rattle.timer_work.proofs.WholeLemmas.{next_left, none_left}
@@ -19,13 +20,13 @@ returns-in-Err g c = record {
       let n = c.sweeping.shard in
       let w = subst (λ (xs : List ℕ). Went (g.M.Machine.stands c.sweeping.machine) c.args.at.0 (Before all_shards) h (g.L.Link.told c.args.link.now) (Before xs) (g.L.Link.told c.sweeping.link))
       (next_left n c.sweeping-test.true) (c.sweeping.invariant.went h st fit) in
-      stopped_on _ _ c.args.at.0 (Before all_shards) h _ (Before (n ∷ numbers (n + 1) (8 - (n + 1)))) _ _ w
-      (c.in-Err.ensures.stopped w.after (numbers (n + 1) (8 - (n + 1))) w.stands w.fit);
+      stopped_on _ _ c.args.at.0 (Before all_shards) h _ (Before (n ∷ numbers (n + 1) (SHARDS - (n + 1)))) _ _ w
+      (c.in-Err.ensures.stopped (numbers (n + 1) (SHARDS - (n + 1))) w.after w.stands w.fit);
   unsound = λ is h st fit.
       let n = c.sweeping.shard in
       let w = subst (λ (xs : List ℕ). Went (g.M.Machine.stands c.sweeping.machine) c.args.at.0 (Before all_shards) h (g.L.Link.told c.args.link.now) (Before xs) (g.L.Link.told c.sweeping.link))
       (next_left n c.sweeping-test.true) (c.sweeping.invariant.went h st fit) in
-      c.sweep_shard.ensures.unsound (c.in-Err.is ∙ is) w.after (numbers (n + 1) (8 - (n + 1))) w.stands w.fit;
+      c.sweep_shard.ensures.unsound (c.in-Err.is ∙ is) (numbers (n + 1) (SHARDS - (n + 1))) w.after w.stands w.fit;
   losses = omega (arith, c.sweeping.invariant.losses, c.sweep_shard.ensures.losses);
 }
 
@@ -35,8 +36,8 @@ sweeping-preserved g c = record {
       let n = c.sweeping.shard in
       let w = subst (λ (xs : List ℕ). Went (g.M.Machine.stands c.sweeping.machine) c.args.at.0 (Before all_shards) h (g.L.Link.told c.args.link.now) (Before xs) (g.L.Link.told c.sweeping.link))
       (next_left n c.sweeping-test.true) (c.sweeping.invariant.went h st fit) in
-      went_on _ _ c.args.at.0 (Before all_shards) h _ (Before (n ∷ numbers (n + 1) (8 - (n + 1)))) _ (Before (numbers (n + 1) (8 - (n + 1)))) _ w
-      (c.in_default.ensures.swept w.after (numbers (n + 1) (8 - (n + 1))) w.stands w.fit);
+      went_on _ _ c.args.at.0 (Before all_shards) h _ (Before (n ∷ numbers (n + 1) (SHARDS - (n + 1)))) _ (Before (numbers (n + 1) (SHARDS - (n + 1)))) _ w
+      (c.in_default.ensures.swept (numbers (n + 1) (SHARDS - (n + 1))) w.after w.stands w.fit);
   losses = omega (arith, c.sweeping.invariant.losses, c.sweep_shard.ensures.losses);
 }
 

@@ -1,5 +1,6 @@
-use Rattle.std.proofs.Common.{◌-◌}
-use Rattle.cron_search.specs.Calendar.{IsCivilSecond, civil_second}
+use Rattle.std.proofs.Common.{◌+◌, ◌-◌}
+use Rattle.plain_words.specs.Moments.{last_moment}
+use Rattle.cron_search.specs.CivilTime.{IsCivilSecond, civil_second}
 use Rattle.zone_occ.proofs.EarliestInstant.{IsSeen}
 use Rattle.zone_occ.specs.FirstInstants.{AreFirsts}
 use Rattle.zone_occ.proofs.batch.by_scan.Given as goal
@@ -11,4 +12,4 @@ invariant-loop-minute l = record {
 }
 
 abbrev pub decreases-loop-minute : goal.decreases-loop-minute
-decreases-loop-minute l = 7_258_118_400 - civil_second l.cursor
+decreases-loop-minute l = last_moment + 1 - civil_second l.cursor

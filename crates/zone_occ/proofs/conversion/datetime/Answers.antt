@@ -2,7 +2,7 @@ use Rattle.std.proofs.Common.{◌≡◌, arith, pos, ap, ◌∙◌, w16, to_z}
 use Rattle.std.proofs.lemmas.Int.{ints}
 use Rattle.jiff_core.specs.Calendar.{days_from_civil}
 use Rattle.jiff_core.specs.DateTime.{civil_seconds}
-use Rattle.cron_search.specs.Calendar.{day_number}
+use Rattle.cron_search.specs.CivilTime.{day_number}
 use Rattle.cron_search.proofs.DayNumbers.{days_from_civil-day_number}
 use Rattle.zone_occ.proofs.conversion.datetime.Goals as goal
 

@@ -1,5 +1,5 @@
 use Rattle.std.proofs.Common.{ℕ, IfSome, IfNone, subst, arith}
-use Rattle.sched_plain.specs.declared.expression.Expr.TheVariants.{At, Rate, Cron}
+use Rattle.expressions.specs.declared.expression.Expr.TheVariants.{At, Rate, Cron}
 use Rattle.zone_occ.specs.Instants.{period}
 use Rattle.zone_occ.specs.InstantFacts.{IsAtInstant, IsRateInstant, IsCronInstant}
 use Rattle.zone_occ.specs.FirstInstants.{IsSearchable, IsInstant, IsNext, HasNoNext}

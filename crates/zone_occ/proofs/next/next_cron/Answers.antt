@@ -1,6 +1,6 @@
 use Rattle.std.proofs.Common.{subst, arith}
 use Rattle.std.specs.Prelude.{unwrap_or}
-use Rattle.sched_plain.specs.Moments.{last_moment}
+use Rattle.plain_words.specs.Moments.{last_moment}
 use Rattle.zone_occ.proofs.CivilSeconds.{civil_second-high}
 use Rattle.zone_occ.proofs.EarliestInstant.{IsPassed, begins, goes_on, ends-found, ends-none}
 use Rattle.zone_occ.proofs.next.next_cron.Goals as goal

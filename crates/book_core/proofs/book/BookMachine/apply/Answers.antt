@@ -5,7 +5,7 @@ use Rattle.sched_plain.specs.Legal.{why}
 use Rattle.book_core.specs.InUse.{calendar}
 use Rattle.book_core.specs.Form.{IsSound}
 use Rattle.book_core.specs.State.{State, HasRoom, history_of, airborne}
-use Rattle.book_core.proofs.ListLemmas.{grown-snoc}
+use Rattle.sched_plain.proofs.HistoryLemmas.{grown_snoc}
 use Rattle.book_core.proofs.BookLemmas.{sound_more, air_more}
 use Rattle.book_core.proofs.book.BookMachine.apply.Goals as goal
 
@@ -24,5 +24,5 @@ invariant_of-self c =
 pub returns : goal.returns
 returns c = λ h st.
     ap history_of c.put_last.ensures.steps
-    ∙ grown-snoc beginning c.self.inside.steps.items c.args.step
+    ∙ grown_snoc beginning c.self.inside.steps.items c.args.step
     ∙ ap (λ (g : History). c.args.step upon g) (ap history_of (ap (λ (b : State). b.steps) c.self.view_is) ∙ st)

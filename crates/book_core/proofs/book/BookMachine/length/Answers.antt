@@ -1,13 +1,13 @@
 use Rattle.std.proofs.Common.{List, length, ◌∙◌, ap}
 use Rattle.sched_plain.specs.declared.step.Step.{Step}
-use Rattle.sched_plain.specs.History.{History, count}
+use Rattle.sched_plain.specs.History.{count}
 use Rattle.book_core.specs.State.{State, history_of}
-use Rattle.book_core.proofs.ListLemmas.{count-steps}
+use Rattle.sched_plain.proofs.HistoryLemmas.{count_steps}
 use Rattle.book_core.proofs.book.BookMachine.length.Goals as goal
 
 pub returns : goal.returns
 returns c = λ h st.
     let own = c.self.inside.steps.items in
     ap (λ (xs : List Step). length xs) c.as_slice.ensures.value
-    ∙ count-steps own
+    ∙ count_steps own
     ∙ ap count (ap history_of (ap (λ (b : State). b.steps) c.self.view_is) ∙ st)

@@ -3,7 +3,7 @@ use Rattle.sched_plain.specs.declared.step.Step.{Step}
 use Rattle.sched_plain.specs.Legal.{why}
 use Rattle.book_core.specs.InUse.{calendar}
 use Rattle.book_core.specs.State.{State, history_of}
-use Rattle.book_core.proofs.BookLemmas.{on_ok}
+use Rattle.plain_words.proofs.Options.{on_ok}
 use Rattle.book_core.proofs.RoomLemmas.{few_airborne}
 use Rattle.book_core.proofs.book.BookMachine.reserve.Goals as goal
 

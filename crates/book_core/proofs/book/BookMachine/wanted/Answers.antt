@@ -1,19 +1,20 @@
 use Rattle.std.proofs.Common.{List, ◌∙◌, ap}
 use Rattle.std.specs.Option.{option_to_list}
+use Rattle.std.proofs.lemmas.Result.{IfOk-weaker}
 use Rattle.sched_plain.specs.declared.step.Step.{Step}
 use Rattle.sched_plain.specs.History.{History}
-use Rattle.sched_plain.specs.Serves.{wanted}
+use Rattle.sched_calls.specs.Serves.{wanted}
 use Rattle.book_core.specs.InUse.{calendar}
 use Rattle.book_core.specs.State.{State, history_of}
 use Rattle.book_core.specs.Questions.{first_unentered}
 use Rattle.book_core.proofs.BirthLemmas.{sound_first}
-use Rattle.book_core.proofs.BookLemmas.{if_ok, wanted_open}
+use Rattle.book_core.proofs.BookLemmas.{wanted_open}
 use Rattle.book_core.proofs.book.BookMachine.wanted.Goals as goal
 
 pub returns : goal.returns
 returns c = λ h st.
     let own = history_of c.self.inside.steps.items in
-    if_ok c.collected.result _ _
+    IfOk-weaker c.collected.result _ _
     (λ v e. e
     ∙ ap option_to_list (c.first_unentered.ensures ∙ ap (λ (xs : List Step). first_unentered (history_of xs) c.args.now.0 c.args.inc) c.as_slice.ensures.value)
     ∙ wanted_open own c.args.inc c.args.now.0 (sound_first own c.self.invariant.0)

@@ -1,4 +1,4 @@
-use Rattle.std.proofs.Common.{rules, arith, ◌++◌, ◌∷◌, []}
+use Rattle.std.proofs.Common.{rules, arith, ℕ, ◌++◌, ◌∷◌, [], length-append}
 use Rattle.http_wire.proofs.DeviceLemmas.{Gives-append, Gives-nil}
 use Rattle.http_wire.proofs.HeadLemmas.{HasNoHead-nil, unframed_for_ever, unframed_at_limit, never_none, most_completed}
 use Rattle.http_wire.proofs.framing.head.read_head.Goals as goal
@@ -17,7 +17,7 @@ pub returns-in-Ok-Bad-clause-unframed : goal.returns-in-Ok-Bad-clause-unframed
 returns-in-Ok-Bad-clause-unframed g c = λ _.
     let given = rw c.in-Ok-Some.field-0-is at c.in-Ok-Some.ensures.given in
     let never = rw c.in-Ok-Bad.ensures.added at (c.in-Ok-Bad.ensures.bad c.in-Ok-Bad.field-0-is) in
-    unframed_for_ever _ _ _ (Gives-append _ _ _ _ _ c.bytes.invariant.taken given) never
+    unframed_for_ever _ _ _ (Gives-append _ _ _ _ _ c.bytes.invariant.taken given) never (omega (arith, length-append {A = ℕ}))
 
 pub returns-in-Ok-Bad-clause-part : goal.returns-in-Ok-Bad-clause-part
 returns-in-Ok-Bad-clause-part g c = λ _.

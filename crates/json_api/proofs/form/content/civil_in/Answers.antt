@@ -1,6 +1,6 @@
 use Rattle.std.proofs.Common.{ℕ, List, sym, subst}
-use Rattle.sched_plain.specs.declared.expression.Expr.TheVariants.{At}
-use Rattle.sched_plain.specs.Spelling.{Spells}
+use Rattle.expressions.specs.declared.expression.Expr.TheVariants.{At}
+use Rattle.expressions.specs.Spelling.{Spells}
 use Rattle.json_api.proofs.FormReaders.{civil_spelled, not_both}
 use Rattle.json_api.proofs.form.content.civil_in.Goals as goal
 

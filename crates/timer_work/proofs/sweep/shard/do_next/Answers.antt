@@ -12,19 +12,19 @@ pub returns-in-Close-clause-stopped : goal.returns-in-Close-clause-stopped
 returns-in-Close-clause-stopped g c = err_stops c.close.result _ _ c.args.at.0 _ c.args.next c.close.ensures.stays
 
 pub returns-in-Complete-clause-stopped : goal.returns-in-Complete-clause-stopped
-returns-in-Complete-clause-stopped g c = λ h shard shards st fit w. stopped_here _ c.args.at.0 (AtWork shard shards) h _ st fit
+returns-in-Complete-clause-stopped g c = λ shard shards h st fit w. stopped_here _ c.args.at.0 (AtWork shard shards) h _ st fit
 
 pub returns-in-Enter-clause-unsound : goal.returns-in-Enter-clause-unsound
-returns-in-Enter-clause-unsound g c = λ is h shard shards st fit w some. c.enter.ensures.unsound is h shard shards st fit (w ∙ c.in-Enter.is)
+returns-in-Enter-clause-unsound g c = λ is some shard shards h st fit w. c.enter.ensures.unsound is shard shards h st fit (w ∙ c.in-Enter.is)
 
 pub returns-in-Close-clause-unsound : goal.returns-in-Close-clause-unsound
-returns-in-Close-clause-unsound g c = λ is h shard shards st fit w some. c.close.ensures.unsound is h shard shards st fit (w ∙ c.in-Close.is)
+returns-in-Close-clause-unsound g c = λ is some shard shards h st fit w. c.close.ensures.unsound is shard shards h st fit (w ∙ c.in-Close.is)
 
 pub returns-in-Begin-clause-unsound : goal.returns-in-Begin-clause-unsound
-returns-in-Begin-clause-unsound g c = λ is h shard shards st fit w some. c.attempt.ensures.unsound is h shard shards st fit (w ∙ c.in-Begin.is)
+returns-in-Begin-clause-unsound g c = λ is some shard shards h st fit w. c.attempt.ensures.unsound is shard shards h st fit (w ∙ c.in-Begin.is)
 
 pub returns-in-Complete-clause-unsound : goal.returns-in-Complete-clause-unsound
-returns-in-Complete-clause-unsound g c = λ is h shard shards st fit w some.
+returns-in-Complete-clause-unsound g c = λ is some shard shards h st fit w.
     none_of_three
     (λ p. complete_never c.args.at.0 shard p.0 shards h fit (w ∙ p.1))
     (λ p. live_never c.args.at.0 shard p.0 p.1 shards h fit (w ∙ p.2))

@@ -1,0 +1,2 @@
+pub mod RealSeconds
+mod SpellingRows

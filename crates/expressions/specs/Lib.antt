@@ -1,0 +1,11 @@
+pub mod Years
+pub mod CivilSeconds
+pub mod Sets
+pub mod Pieces
+pub mod CronItems
+pub mod Spelling
+pub mod ExpressionFaults
+pub mod Canonical
+pub mod Calendar
+pub mod SpellingExamples
+pub mod SpellingRows

@@ -1,2 +1,0 @@
-//! What requests ask for.
-mod forms;

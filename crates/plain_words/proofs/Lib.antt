@@ -1,0 +1,5 @@
+pub mod Booleans
+pub mod Options
+pub mod ListLemmas
+mod WordLemmas
+mod IdLemmas

@@ -1,0 +1,5 @@
+pub mod Bytes
+pub mod Lists
+pub mod Words
+pub mod Ids
+pub mod Moments

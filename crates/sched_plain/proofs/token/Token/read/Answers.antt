@@ -1,6 +1,0 @@
-use Rattle.std.proofs.Common.{sym, ◌∙◌}
-use Rattle.sched_plain.proofs.WordLemmas.{IsAscii-token}
-use Rattle.sched_plain.proofs.token.Token.read.Goals as goal
-
-pub ascii_string-requires : goal.ascii_string-requires
-ascii_string-requires c = IsAscii-token c.args.bytes.now (sym c.fault_of.ensures ∙ c.in_default.is)

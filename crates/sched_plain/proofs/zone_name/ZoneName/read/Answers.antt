@@ -1,6 +1,0 @@
-use Rattle.std.proofs.Common.{sym, ◌∙◌}
-use Rattle.sched_plain.proofs.WordLemmas.{IsAscii-zone}
-use Rattle.sched_plain.proofs.zone_name.ZoneName.read.Goals as goal
-
-pub ascii_string-requires : goal.ascii_string-requires
-ascii_string-requires c = IsAscii-zone c.args.bytes.now (sym c.fault_of.ensures ∙ c.in_default.is)

@@ -1,2 +1,0 @@
-//! Sweeps over a machine and a link in memory.
-mod sweeps;
