@@ -12,7 +12,7 @@ use Rattle.sched_plain.specs.declared.step.Pair.{Pair}
 use Rattle.sched_plain.specs.declared.step.Step.{Step}
 use Rattle.sched_plain.specs.declared.step.Step.TheVariants as steps
 use Rattle.sched_plain.specs.declared.write.Write.TheVariants as writes
-use Rattle.sched_plain.specs.History.{History, beginning, ◌upon◌}
+use Rattle.sched_plain.specs.History.{History, beginning, based, ◌upon◌}
 use Rattle.plain_words.specs.Ids.{shard_of}
 use Rattle.plain_words.specs.Moments.{moment_of, last_moment}
 use Rattle.plain_words.specs.Lists.{nth, some_pass, numbers, only_if, or_else}
@@ -25,24 +25,28 @@ use Rattle.sched_plain.specs.Ledger.{ledger_of, ended_by, policy_of, policy_or_n
 use Rattle.sched_plain.specs.Leases.{holder, freed, leased, is_taking}
 use Rattle.sched_plain.specs.Entries.{filed, filed_by, changed_if, with_loss}
 use Rattle.sched_plain.specs.Rules.{window_of}
+use Rattle.sched_plain.specs.Marks.{above_floor}
 use Rattle.book_core.specs.Form.{IsFirstForm, IsSound}
 use Rattle.book_core.specs.Births.{Birth, births, row_of, items_of, origin_of, track}
 use Rattle.book_core.specs.Track.{track_after, after_creation, after_enter, after_lease, window_seen, policy_entered, policy_seen, covers_from}
 use Rattle.book_core.specs.Made.{content_of}
 use Rattle.plain_words.proofs.ListLemmas.{nth_map, map_same, nth_snoc, filter_none, some_pass_none}
 
--- each step of a history is of the first forms
+-- each step of a history is of the first forms, and it has no base
 abbrev pub AllFirst : History → Type 0
 AllFirst beginning = Unit {0}
+AllFirst (based b kept) = ⊥
 AllFirst (s upon h) = AllFirst h × IsFirstForm s
 
 pub sound_first : (h : History) → IsSound h → AllFirst h
 sound_first beginning p = tt
+sound_first (based b kept) p = absurd p
 sound_first (s upon h) p = (sound_first h p.0, p.1.form)
 
 -- the rows are those of the creations
 pub rows_births : (h : History) → AllFirst h → rows_of (changes_of h) ≡ map row_of (births h)
 rows_births beginning p = refl
+rows_births (based b kept) p = absurd p
 rows_births (steps.Boot at upon h) p = rows_births h p.0
 rows_births (steps.Zone at name bytes upon h) p = cc p.1
 rows_births (steps.Change at (writes.CreateSchedule group name token content) upon h) p =
@@ -64,6 +68,7 @@ rows_births (steps.Swept at shard upon h) p = rows_births h p.0
 -- the group `default` is the only one
 pub groups_first : (h : History) → AllFirst h → groups_of (changes_of h) ≡ record { name = default_name; created = moment_of 0 } ∷ []
 groups_first beginning p = refl
+groups_first (based b kept) p = absurd p
 groups_first (steps.Boot at upon h) p = groups_first h p.0
 groups_first (steps.Zone at name bytes upon h) p = cc p.1
 groups_first (steps.Change at (writes.CreateSchedule group name token content) upon h) p = groups_first h p.0
@@ -83,6 +88,7 @@ groups_first (steps.Swept at shard upon h) p = groups_first h p.0
 -- no zone has bytes
 pub no_bytes : (h : History) (name : List ℕ) → AllFirst h → bytes_of h name ≡ None
 no_bytes beginning name p = refl
+no_bytes (based b kept) name p = absurd p
 no_bytes (steps.Boot at upon h) name p = no_bytes h name p.0
 no_bytes (steps.Zone at known bytes upon h) name p = cc p.1
 no_bytes (steps.Change at write upon h) name p = no_bytes h name p.0
@@ -98,6 +104,12 @@ no_bytes (steps.Swept at shard upon h) name p = no_bytes h name p.0
 -- so every content is read as in UTC
 pub read_plain : (h : History) (zone : List ℕ) → AllFirst h → read_under h zone ≡ None
 read_plain h zone p = elim (is_utc zone) as (λ b. (if b then None else bytes_of h zone) ≡ None) [ true ↦ refl | false ↦ no_bytes h zone p ]
+
+-- nothing was folded away
+pub no_floor : (h : History) (inc : ℕ) → AllFirst h → above_floor h inc ≡ 0
+no_floor beginning inc p = refl
+no_floor (based b kept) inc p = absurd p
+no_floor (s upon h) inc p = no_floor h inc p.0
 
 -- how many incarnations there are
 pub length_births : (h : History) → AllFirst h → length (rows_of (changes_of h)) ≡ length (births h)
@@ -122,6 +134,7 @@ born_items false new old = refl
 -- the items of an incarnation are those of its creation
 pub items_births : (h : History) (inc : ℕ) → AllFirst h → items h inc ≡ items_of (nth (births h) inc)
 items_births beginning inc p = refl
+items_births (based b kept) inc p = absurd p
 items_births (steps.Boot at upon h) inc p = items_births h inc p.0
 items_births (steps.Zone at name bytes upon h) inc p = cc p.1
 items_births (steps.Change at (writes.CreateSchedule group name token content) upon h) inc p =

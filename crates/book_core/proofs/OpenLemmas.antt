@@ -1,7 +1,8 @@
 -- What is unentered of a schedule of the first forms: its one occurrence, where nothing is filed for it.
-use Rattle.std.proofs.Common.{◌≡◌, ℕ, zero, suc, ◌+◌, Bool, true, false, Option, Some, None, List, [], ◌∷◌, refl, ap, sym, ◌∙◌, arith, eqb-true, eq-eqb}
+use Rattle.std.proofs.Common.{◌≡◌, ℕ, zero, suc, ◌+◌, Bool, true, false, Option, Some, None, List, [], ◌∷◌, refl, ap, sym, ◌∙◌, arith, eqb-true, eq-eqb, ◌≤◌, nat_le, filter}
 use Rattle.std.specs.Prelude.{◌==◌, nat_le, nat_lt, ◌&&◌, ◌||◌, if◌then◌else◌, is_some}
 use Rattle.std.specs.Option.{option_map, option_and_then, option_to_list}
+use Rattle.std.proofs.lemmas.Bool.{le-leb}
 use Rattle.std.proofs.lemmas.Bool.Decides.{nat_tests}
 use Rattle.sched_plain.specs.declared.entry.Filed.{Filed}
 use Rattle.expressions.specs.declared.expression.Expr.{Expr}
@@ -12,19 +13,20 @@ use Rattle.sched_plain.specs.History.{History}
 use Rattle.plain_words.specs.Moments.{last_moment}
 use Rattle.expressions.specs.CivilSeconds.{is_civil, civil_second}
 use Rattle.plain_words.specs.Lists.{nth, put_if}
-use Rattle.sched_plain.specs.Items.{Item}
+use Rattle.sched_plain.specs.Items.{Item, items}
 use Rattle.sched_plain.specs.Occurrences.{is_within_dates, occ_below}
 use Rattle.plain_words.specs.Lists.{passing}
 use Rattle.sched_plain.specs.Ledger.{ledger_of}
 use Rattle.sched_plain.specs.Entries.{entries, filed, is_paired}
-use Rattle.sched_plain.specs.Marks.{unentered, without_pair}
+use Rattle.sched_plain.specs.Marks.{unentered, without_pair, above_floor}
 use Rattle.book_core.specs.declared.track.Origin.{Origin}
 use Rattle.book_core.specs.InUse.{calendar, is_instant}
 use Rattle.book_core.specs.Births.{Birth, births, items_of, origin_of}
 use Rattle.book_core.specs.Track.{covers_from}
 use Rattle.book_core.specs.Open.{instant_of, if_covered, if_open, open_of}
 use Rattle.sched_plain.proofs.LedgerLemmas.{filed_paired}
-use Rattle.book_core.proofs.BirthLemmas.{AllFirst, items_births}
+use Rattle.plain_words.proofs.ListLemmas.{filter_every}
+use Rattle.book_core.proofs.BirthLemmas.{AllFirst, items_births, no_floor}
 
 -- where a test passes a number at most, what passes below a bound is that number or nothing
 abbrev pub only : Bool → ℕ → List ℕ
@@ -145,9 +147,14 @@ unfolding occ_below
 option_open None t pairs filed e = none_open pairs _ (t + 1) (λ i. refl)
 option_open (Some b) t pairs filed e = birth_open b.content.expr b.content.enabled b.at _ t b.content pairs filed (origin_of b) e refl refl
 
+-- all is above no floor
+above_none : (least : ℕ) → least ≡ 0 → (xs : List ℕ) → filter (nat_le least) xs ≡ xs
+above_none least none xs = filter_every (nat_le least) xs (λ i. le-leb least i (let low : least ≤ i = omega (arith, none) in low))
+
 -- what is unentered of an incarnation up to a moment
 pub unentered_open : (h : History) (inc t : ℕ) → AllFirst h
     → unentered calendar h inc t ≡ option_to_list (open_of (filed (ledger_of h) inc) t (option_map origin_of (nth (births h) inc)))
 unentered_open h inc t p =
-    ap (λ (all : List Item). without_pair (entries (ledger_of h) inc) (occ_below calendar all (t + 1))) (items_births h inc p)
+    ap (without_pair (entries (ledger_of h) inc)) (above_none (above_floor h inc) (no_floor h inc p) (occ_below calendar (items h inc) (t + 1)))
+    ∙ ap (λ (all : List Item). without_pair (entries (ledger_of h) inc) (occ_below calendar all (t + 1))) (items_births h inc p)
     ∙ option_open (nth (births h) inc) t (entries (ledger_of h) inc) (filed (ledger_of h) inc) (λ k. sym (filed_paired (ledger_of h) inc k))

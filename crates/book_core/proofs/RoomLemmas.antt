@@ -19,7 +19,7 @@ use Rattle.plain_words.specs.declared.verdict.Verdict.TheVariants as verdicts
 use Rattle.sched_plain.specs.declared.why.Why.{Why}
 use Rattle.sched_plain.specs.declared.why.Why.TheVariants as whys
 use Rattle.sched_plain.specs.declared.write.Write.TheVariants as writes
-use Rattle.sched_plain.specs.History.{History, beginning, ◌upon◌, grown}
+use Rattle.sched_plain.specs.History.{History, beginning, based, ◌upon◌, grown}
 use Rattle.plain_words.specs.Ids.{shard_of}
 use Rattle.sched_plain.specs.Moments.{moment}
 use Rattle.plain_words.specs.Moments.{moment_of}
@@ -210,6 +210,7 @@ flies_upon h (steps.Swept at shard) inc instant m p = p
 -- a live attempt has no End yet
 pub flying : (h : History) (inc instant : ℕ) → IsSound h → Flies inc instant (filed (ledger_of h) inc instant) (airborne h)
 flying beginning inc instant p = λ f e l. cc e
+flying (based b kept) inc instant p = absurd p
 flying (s upon h) inc instant p =
     subst (λ (t : Track). Flies inc instant t.filed (airborne (s upon h))) (sym (track-upon h s inc instant (sound_first h p.0) p.1.form))
     (flies_upon h s inc instant p.1 (flying h inc instant p.0))

@@ -18,7 +18,7 @@ use Rattle.plain_words.specs.declared.verdict.Verdict.{Verdict}
 use Rattle.plain_words.specs.declared.verdict.Verdict.TheVariants as verdicts
 use Rattle.sched_plain.specs.declared.why.Why.{Why}
 use Rattle.sched_plain.specs.declared.write.Write.TheVariants as writes
-use Rattle.sched_plain.specs.History.{History, beginning, ◌upon◌}
+use Rattle.sched_plain.specs.History.{History, beginning, based, ◌upon◌}
 use Rattle.plain_words.specs.Ids.{shard_of}
 use Rattle.plain_words.specs.Moments.{last_moment, moment_of}
 use Rattle.plain_words.specs.Lists.{or_else, first_some}
@@ -34,7 +34,8 @@ use Rattle.book_core.specs.InUse.{calendar}
 use Rattle.book_core.specs.Form.{MayAdd, IsSound}
 use Rattle.book_core.specs.Births.{track}
 use Rattle.book_core.specs.Track.{origin_from, track_after, after_enter, after_lease, policy_entered, covers_from}
-use Rattle.book_core.specs.Small.{last_at, SmallFiled, IsSmallFiled, IsSmallOrigin, SmallTrack}
+use Rattle.policy_rules.specs.LastAttempt.{last_at}
+use Rattle.book_core.specs.Small.{SmallFiled, IsSmallFiled, IsSmallOrigin, SmallTrack}
 use Rattle.book_core.proofs.BirthLemmas.{sound_first, track-upon}
 use Rattle.plain_words.proofs.Booleans.{and_first, and_second}
 use Rattle.plain_words.proofs.ListLemmas.{all_none}
@@ -169,5 +170,6 @@ small-upon h (steps.Swept at shard) inc instant m t = t
 -- the numbers of a sound history keep their bounds
 pub sound_small : (h : History) (inc instant : ℕ) → IsSound h → SmallTrack (track h inc instant)
 sound_small beginning inc instant p = record { origin = tt; filed = tt }
+sound_small (based b kept) inc instant p = absurd p
 sound_small (s upon h) inc instant p =
     subst SmallTrack (sym (track-upon h s inc instant (sound_first h p.0) p.1.form)) (small-upon h s inc instant p.1 (sound_small h inc instant p.0))

@@ -16,7 +16,7 @@ use Rattle.sched_plain.specs.declared.why.RowFault.TheVariants as faults
 use Rattle.sched_plain.specs.declared.work.Work.{Work}
 use Rattle.sched_plain.specs.declared.work.Work.TheVariants as works
 use Rattle.sched_plain.specs.declared.write.Write.TheVariants as writes
-use Rattle.sched_plain.specs.History.{History, beginning, ◌upon◌, grown}
+use Rattle.sched_plain.specs.History.{History, beginning, based, ◌upon◌, grown}
 use Rattle.plain_words.specs.Moments.{moment_of}
 use Rattle.plain_words.specs.Lists.{nth, first_some, first_answer, or_else, when, some_pass, numbers, head}
 use Rattle.sched_plain.specs.Changes.{changes_of}
@@ -63,6 +63,7 @@ room_left h at group name token content r =
 -- incarnations fit their numbers
 pub few_births : (h : History) → IsSound h → length (births h) ≤ MOST_INCARNATIONS
 few_births beginning p = omega arith
+few_births (based b kept) p = absurd p
 few_births (steps.Boot at upon h) p = few_births h p.0
 few_births (steps.Zone at name bytes upon h) p = few_births h p.0
 few_births (steps.Change at (writes.CreateSchedule group name token content) upon h) p =
@@ -222,6 +223,7 @@ stays_if false new old e f = f
 -- every content stays when it is done
 pub stays : (h : History) (inc : ℕ) → AllFirst h → some_pass (λ (b : Birth). b.content.delete_after) (nth (births h) inc) ≡ false
 stays beginning inc p = refl
+stays (based b kept) inc p = absurd p
 stays (steps.Boot at upon h) inc p = stays h inc p.0
 stays (steps.Zone at name bytes upon h) inc p = cc p.1
 stays (steps.Change at (writes.CreateSchedule group name token content) upon h) inc p =

@@ -6,7 +6,7 @@ use Rattle.sched_plain.specs.declared.schedule.Schedule.{Schedule}
 use Rattle.sched_plain.specs.declared.step.Step.TheVariants as steps
 use Rattle.sched_plain.specs.declared.write.Write.{Write}
 use Rattle.sched_plain.specs.declared.write.Write.TheVariants as writes
-use Rattle.sched_plain.specs.History.{History, beginning, ◌upon◌}
+use Rattle.sched_plain.specs.History.{History, beginning, based, ◌upon◌}
 use Rattle.plain_words.specs.Ids.{shard_of}
 use Rattle.plain_words.specs.Moments.{moment_of}
 use Rattle.plain_words.specs.Lists.{nth}
@@ -34,6 +34,7 @@ births_by at write = []
 -- the creations of a history, in order
 abbrev pub births : History → List Birth
 births beginning = []
+births (based b kept) = births kept
 births (steps.Change at write upon h) = births h ++ births_by at.0 write
 births (s upon h) = births h
 

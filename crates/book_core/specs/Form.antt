@@ -8,7 +8,7 @@ use Rattle.sched_plain.specs.declared.step.Step.{Step}
 use Rattle.sched_plain.specs.declared.step.Step.TheVariants as steps
 use Rattle.sched_plain.specs.declared.write.Write.{Write}
 use Rattle.sched_plain.specs.declared.write.Write.TheVariants as writes
-use Rattle.sched_plain.specs.History.{History, beginning, ◌upon◌}
+use Rattle.sched_plain.specs.History.{History, beginning, based, ◌upon◌}
 use Rattle.sched_plain.specs.Validity.{IsValid}
 use Rattle.sched_plain.specs.Zones.{is_utc}
 use Rattle.sched_plain.specs.Legal.{MayFollow}
@@ -45,7 +45,8 @@ pub record MayAdd (h : History) (s : Step) : Type 0 where
   pub valid : IsValid s
   pub follows : MayFollow calendar h s
 
--- a history that was made by such steps alone
+-- a history that was made by such steps alone: it has no base
 abbrev pub IsSound : History → Type 0
 IsSound beginning = Unit {0}
+IsSound (based b kept) = ⊥
 IsSound (s upon h) = IsSound h × MayAdd h s

@@ -1,20 +1,12 @@
 -- Bounds that the numbers of a sound history keep, so that the machine's sums fit.
-use Rattle.std.specs.Prelude.{ℕ, ◌+◌, ◌≤◌, Option, Some, None}
+use Rattle.std.specs.Prelude.{◌+◌, ◌≤◌, Option, Some, None}
 use Rattle.sched_plain.specs.declared.entry.Filed.{Filed}
-use Rattle.sched_plain.specs.declared.entry.Last.{Last}
-use Rattle.sched_plain.specs.declared.entry.Last.TheVariants as lasts
-use Rattle.book_core.specs.declared.standing.TheConstants.{LAST_CHOSEN}
+use Rattle.policy_rules.specs.LastAttempt.{last_at}
+use Rattle.policy_rules.specs.declared.standings.TheConstants.{LAST_CHOSEN}
 use Rattle.plain_words.specs.declared.limits.TheConstants.{LONGEST_WINDOW, MOST_RETRIES}
 use Rattle.plain_words.specs.Moments.{last_moment}
 use Rattle.book_core.specs.declared.track.Origin.{Origin}
 use Rattle.book_core.specs.declared.track.Track.{Track}
-
--- the moment of the last attempt, or 0
-abbrev pub last_at : Last → ℕ
-last_at lasts.NoAttempt = 0
-last_at (lasts.Live at) = at
-last_at (lasts.Lost at) = at
-last_at (lasts.Ended at) = at
 
 -- no more attempts than the policy allows, and moments of the calendar
 pub record SmallFiled (filed : Filed) : Type 0 where

@@ -2,7 +2,7 @@
 use Rattle.std.specs.Prelude.{◌≡◌, ℕ, ◌+◌, ◌≤◌, ◌==◌, ◌&&◌, if◌then◌else◌, List, [], ◌∷◌, length}
 use Rattle.sched_plain.specs.declared.step.Step.{Step}
 use Rattle.sched_plain.specs.declared.step.Step.TheVariants as steps
-use Rattle.sched_plain.specs.History.{History, beginning, ◌upon◌, grown}
+use Rattle.sched_plain.specs.History.{History, beginning, based, ◌upon◌, grown}
 
 -- the history of these steps
 abbrev pub history_of : List Step → History
@@ -23,6 +23,7 @@ landed inc instant number (flight ∷ more) =
 -- the attempts that were begun and have no End yet, lost ones among them
 abbrev pub airborne : History → List Flight
 airborne beginning = []
+airborne (based b kept) = airborne kept
 airborne (steps.Begin at inc instant number epoch upon h) = record { inc = inc; instant = instant; number = number } ∷ airborne h
 airborne (steps.End at inc instant number verdict status upon h) = landed inc instant number (airborne h)
 airborne (s upon h) = airborne h

@@ -7,11 +7,11 @@ use Rattle.sched_plain.specs.declared.entry.Filed.{Filed}
 use Rattle.sched_plain.specs.declared.step.Step.{Step}
 use Rattle.sched_plain.specs.declared.step.Step.TheVariants as steps
 use Rattle.sched_plain.specs.declared.outcome.Outcome.TheVariants as outcomes
-use Rattle.sched_plain.specs.History.{History, beginning, ◌upon◌, count}
+use Rattle.sched_plain.specs.History.{History, beginning, based, ◌upon◌, count}
 use Rattle.plain_words.specs.Lists.{numbers, or_else}
 use Rattle.expressions.specs.Calendar.{Calendar}
-use Rattle.sched_plain.specs.Ledger.{LedgerCall, Entered, Begun, Finished, Closed, Cancelled, Lost, ledger_of}
-use Rattle.sched_plain.specs.Entries.{decided_as, with_begin, with_end, outcome_of, with_loss, changed_if, is_lost_in, filed_by, filed}
+use Rattle.sched_plain.specs.Ledger.{LedgerCall, Entered, Begun, Finished, Closed, Cancelled, Lost, ledger_of, Missed}
+use Rattle.sched_plain.specs.Entries.{decided_as, with_begin, with_end, outcome_of, with_loss, changed_if, is_lost_in, filed_by, filed, with_missed}
 use Rattle.sched_plain.specs.Attempts.{attempts}
 use Rattle.sched_plain.specs.Legal.{IsLegal}
 use Rattle.plain_words.proofs.Booleans.{both_itself}
@@ -19,7 +19,7 @@ use Rattle.plain_words.proofs.ListLemmas.{length_numbers}
 use Rattle.book_laws.specs.AttemptLaws.{allowed, counted, NumbersCount, BeginsAt, BeginsDiffer, AttemptsAreAllowed, EntriesCount}
 use Rattle.book_laws.proofs.Places.{found_top, found_below, place_bound}
 use Rattle.book_laws.proofs.NewCalls.{new_calls, ledger_is, calls_keep}
-use Rattle.book_laws.proofs.Numbers.{LeavesCount, counted_edit, decided_leaves, loss_leaves, end_leaves, IsNext, begin_next, counted_in}
+use Rattle.book_laws.proofs.Numbers.{LeavesCount, counted_edit, decided_leaves, loss_leaves, end_leaves, IsNext, begin_next, counted_in, missed_leaves}
 
 pub entries_count : EntriesCount
 entries_count c h legal inc i =
@@ -58,6 +58,8 @@ call_grows inc i (Closed of at reason) before =
 call_grows inc i (Cancelled of) before =
     edit_grows (inc == of) (decided_as outcomes.Cancelled) (decided_leaves outcomes.Cancelled) (filed before inc i)
 call_grows inc i (Lost shard moment) before = edit_grows (is_lost_in shard inc) (with_loss moment) (loss_leaves moment) (filed before inc i)
+call_grows inc i (Missed of at number moment) before =
+    edit_grows (inc == of && i == at) (with_missed number moment) (missed_leaves number moment) (filed before inc i)
 
 step_grows : (h : History) (s : Step) (inc i : ℕ) → counted (filed (ledger_of h) inc i) ≤ counted (filed (ledger_of (s upon h)) inc i)
 step_grows h s inc i =
@@ -78,6 +80,7 @@ next_is number (Some f) next = next.0
 -- the number of a begin is counted from then on
 begun_before : (c : Calendar) (h : History) → IsLegal c h → (place inc i number : ℕ) → BeginsAt h place inc i number → number ≤ counted (filed (ledger_of h) inc i)
 begun_before c beginning legal place inc i number begins = let never = begins.2 in cc
+begun_before c (based b kept) legal place inc i number begins = absurd legal
 begun_before c (s upon h) legal place inc i number begins =
     let at = begins.0 in
     let epoch = begins.1 in
@@ -98,6 +101,7 @@ begun_before c (s upon h) legal place inc i number begins =
 not_again : (c : Calendar) (h : History) → IsLegal c h → (inc i number one later : ℕ) → BeginsAt h one inc i number → BeginsAt h later inc i number
     → one < later → ⊥
 not_again c beginning legal inc i number one later first second lt = let never = first.2 in cc
+not_again c (based b kept) legal inc i number one later first second lt = absurd legal
 not_again c (s upon h) legal inc i number one later first second lt =
     let early = steps.Begin first.0 inc i number first.1 in
     let late = steps.Begin second.0 inc i number second.1 in
@@ -113,7 +117,7 @@ not_again c (s upon h) legal inc i number one later first second lt =
           omega arith
       | inr below ↦
           let before = found_below s late h later below second.2 in
-          let under : later ≤ count h = place_bound h later late before in
+          let under : later ≤ count h = place_bound c h legal.0 later late before in
           let lower : one ≡ count h + 1 → ⊥ = λ same. omega arith in
           not_again c h legal.0 inc i number one later (first.0, first.1, found_below s early h one lower first.2) (second.0, second.1, before) lt
     ]

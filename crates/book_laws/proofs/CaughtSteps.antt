@@ -1,5 +1,5 @@
 -- Each kind of step keeps what is caught.
-use Rattle.std.proofs.Common.{◌≡◌, ℕ, ◌+◌, ◌≤◌, ◌==◌, max, Bool, true, false, cond, Option, Some, None, is_some, List, [], ◌++◌, map, length, take, refl, sym, ap, ap₂, ◌∙◌, subst, inl, inr, arith}
+use Rattle.std.proofs.Common.{◌≡◌, ℕ, ◌+◌, ◌≤◌, ◌==◌, max, Bool, true, false, cond, Option, Some, None, is_some, List, [], ◌++◌, map, length, take, filter, refl, sym, ap, ap₂, ◌∙◌, subst, inl, inr, arith, le_refl}
 use Rattle.std.proofs.lemmas.Bool.{cases_eq, eq-eqb, ne_eqb, eqb-true}
 use Rattle.std.proofs.lemmas.List.{length-map}
 use Rattle.plain_words.specs.declared.moment.Moment.{Moment}
@@ -22,7 +22,7 @@ use Rattle.plain_words.specs.Lists.{passing}
 use Rattle.sched_plain.specs.Leases.{holder, is_taking}
 use Rattle.sched_plain.specs.Ledger.{ended_by, ledger_of}
 use Rattle.sched_plain.specs.Entries.{entries, instants_of}
-use Rattle.sched_plain.specs.Marks.{unentered, cover_written, cover_born, cover_entered, cover}
+use Rattle.sched_plain.specs.Marks.{above_floor, unentered, cover_written, cover_born, cover_entered, cover}
 use Rattle.sched_plain.specs.Seen.{seen}
 use Rattle.sched_plain.specs.Work.{open_at, first_open}
 use Rattle.sched_plain.specs.Rules.{first_astray}
@@ -32,12 +32,13 @@ use Rattle.plain_words.proofs.ListLemmas.{nth_past}
 use Rattle.sched_plain.proofs.LedgerLemmas.{entries_cancelled, entries_lost}
 use Rattle.book_laws.proofs.Tables.{kind_holds, moment_holds}
 use Rattle.book_laws.proofs.Passing.{from_on}
+use Rattle.book_laws.proofs.Floors.{Reaches, reaches_on}
 use Rattle.book_laws.proofs.Fronts.{reach}
 use Rattle.book_laws.proofs.Spans.{zoned_stays, cut_if_stays}
 use Rattle.book_laws.proofs.Searches.{nth_within, none_before, none_unchanged, none_among, none_open}
 use Rattle.book_laws.proofs.Settled.{swept_open}
 use Rattle.book_laws.proofs.Pairs.{none_astray, grown_by}
-use Rattle.book_laws.proofs.Covers.{Caught, no_items, none_from_on, same_below, unentered_is, written_exact, written_bound, born_exact, born_bound, deed_bound, born_row}
+use Rattle.book_laws.proofs.Covers.{Caught, no_items, none_from_on, same_below, unentered_is, written_exact, written_bound, written_grows, chosen_grows, born_exact, born_bound, deed_bound, born_row}
 
 -- the bound of the step before is one of the step behind
 moved : (m old at : ℕ) → m ≤ old + 1 → old ≤ at → m ≤ at + 1
@@ -45,7 +46,7 @@ moved m old at bound le = omega arith
 
 pub boot_caught : (c : Calendar) (h : History) (inc : ℕ) (at : Moment) → MayFollow c h (steps.Boot at) → Caught c h inc → Caught c (steps.Boot at upon h) inc
 boot_caught c h inc at may old =
-    record { bound = moved (cover h inc) (moment h) at.0 old.bound (moment_holds c h (steps.Boot at) may); exact = old.exact; unborn = old.unborn }
+    record { bound = moved (cover h inc) (moment h) at.0 old.bound (moment_holds c h (steps.Boot at) may); reaches = old.reaches; unborn = old.unborn; unfloored = old.unfloored }
 
 pub zone_caught : (c : Calendar) (h : History) (inc : ℕ) (at : Moment) (name bytes : List ℕ) → MayFollow c h (steps.Zone at name bytes)
     → Caught c h inc → Caught c (steps.Zone at name bytes upon h) inc
@@ -55,11 +56,13 @@ zone_caught c h inc at name bytes may old =
     let up : cover h inc ≤ at.0 + 1 = moved (cover h inc) (moment h) at.0 old.bound (moment_holds c h (steps.Zone at name bytes) may) in
     record {
       bound = up;
-      exact =
-          old.exact
-          ∙ same_below c (items_zoned known at.0 name bytes row (items h inc)) (items h inc) (cover h inc) at.0 up
-          (zoned_stays c known at.0 name bytes row (items h inc));
+      reaches =
+          reaches_on _ _ (above_floor h inc) (cover h inc) (cover h inc) _ _ refl
+          (same_below c (items_zoned known at.0 name bytes row (items h inc)) (items h inc) (cover h inc) at.0 up
+          (zoned_stays c known at.0 name bytes row (items h inc)))
+          (le_refl (cover h inc)) old.reaches;
       unborn = λ none. ap₂ (λ r all. items_zoned known at.0 name bytes r all) none (old.unborn none);
+      unfloored = old.unfloored;
     }
 
 cut_none : (b : Bool) (at : ℕ) → cond b (map (cut_item at) []) [] ≡ []
@@ -72,14 +75,16 @@ complete_caught c h inc at removed may old =
     let up : cover h inc ≤ at.0 + 1 = moved (cover h inc) (moment h) at.0 old.bound (moment_holds c h (steps.Complete at removed) may) in
     record {
       bound = up;
-      exact =
-          old.exact
-          ∙ same_below c (cond (inc == removed) (map (cut_item at.0) (items h inc)) (items h inc)) (items h inc) (cover h inc) at.0 up
-          (cut_if_stays c (inc == removed) at.0 (items h inc));
+      reaches =
+          reaches_on _ _ (above_floor h inc) (cover h inc) (cover h inc) _ _ refl
+          (same_below c (cond (inc == removed) (map (cut_item at.0) (items h inc)) (items h inc)) (items h inc) (cover h inc) at.0 up
+          (cut_if_stays c (inc == removed) at.0 (items h inc)))
+          (le_refl (cover h inc)) old.reaches;
       unborn = λ none.
           ap (λ all. cond (inc == removed) (map (cut_item at.0) all) all)
           (old.unborn (none_unchanged (removed_at at.0) (rows_of (changes_of h)) removed inc none))
           ∙ cut_none (inc == removed) at.0;
+      unfloored = λ none. old.unfloored (none_unchanged (removed_at at.0) (rows_of (changes_of h)) removed inc none);
     }
 
 pub lease_caught : (c : Calendar) (h : History) (inc : ℕ) (at : Moment) (shard worker epoch until : ℕ) → MayFollow c h (steps.Lease at shard worker epoch until)
@@ -87,24 +92,28 @@ pub lease_caught : (c : Calendar) (h : History) (inc : ℕ) (at : Moment) (shard
 lease_caught c h inc at shard worker epoch until may old =
     record {
       bound = moved (cover h inc) (moment h) at.0 old.bound (moment_holds c h (steps.Lease at shard worker epoch until) may);
-      exact = ap instants_of (entries_lost (is_taking (holder h shard) epoch) (Some shard) at.0 (ledger_of h) inc) ∙ old.exact;
+      reaches =
+          reaches_on _ _ (above_floor h inc) (cover h inc) (cover h inc) _ _
+          (ap instants_of (entries_lost (is_taking (holder h shard) epoch) (Some shard) at.0 (ledger_of h) inc)) refl
+          (le_refl (cover h inc)) old.reaches;
       unborn = old.unborn;
+      unfloored = old.unfloored;
     }
 
 -- an Enter, by whether it is of this incarnation
-enter_exact : (p : ℕ → Bool) (b mine : Bool) (before pairs : List Pair) (m n : ℕ) → b ≡ mine → instants_of before ≡ passing p m
+enter_reaches : (p : ℕ → Bool) (least : ℕ) (b : Bool) (before pairs : List Pair) (m n : ℕ) → Reaches p least m (instants_of before)
     → (b ≡ true → instants_of pairs ≡ take (length pairs) (passing (from_on m p) n))
-    → instants_of (cond b (before ++ pairs) before) ≡ passing p (cond b (cover_entered (last pairs) m) m)
-enter_exact p true mine before pairs m n same exact front = (grown_by p before pairs m n exact (front refl)).exact
-enter_exact p false mine before pairs m n same exact front = exact
+    → Reaches p least (cond b (cover_entered (last pairs) m) m) (instants_of (cond b (before ++ pairs) before))
+enter_reaches p least true before pairs m n old front = (grown_by p least before pairs m n old (front refl)).reaches
+enter_reaches p least false before pairs m n old front = old
 
-enter_bound : (p : ℕ → Bool) (b : Bool) (before pairs : List Pair) (m at : ℕ) → m ≤ at + 1 → instants_of before ≡ passing p m
+enter_bound : (p : ℕ → Bool) (least : ℕ) (b : Bool) (before pairs : List Pair) (m at : ℕ) → m ≤ at + 1 → Reaches p least m (instants_of before)
     → (b ≡ true → instants_of pairs ≡ take (length pairs) (passing (from_on m p) (at + 1)))
     → cond b (cover_entered (last pairs) m) m ≤ at + 1
-enter_bound p true before pairs m at le exact front =
-    let grown : cover_entered (last pairs) m ≤ max m (at + 1) = (grown_by p before pairs m (at + 1) exact (front refl)).bound in
+enter_bound p least true before pairs m at le old front =
+    let grown : cover_entered (last pairs) m ≤ max m (at + 1) = (grown_by p least before pairs m (at + 1) old (front refl)).bound in
     omega arith
-enter_bound p false before pairs m at le exact front = le
+enter_bound p least false before pairs m at le old front = le
 
 pub enter_caught : (c : Calendar) (h : History) (inc : ℕ) (at : Moment) (of : ℕ) (pairs : List Pair) → MayFollow c h (steps.Enter at of pairs)
     → Caught c h inc → Caught c (steps.Enter at of pairs upon h) inc
@@ -119,9 +128,10 @@ enter_caught c h inc at of pairs may old =
     ∙ ap (λ k. take (length pairs) (unentered c h k at.0)) (sym (eqb-true inc of same))
     ∙ ap (take (length pairs)) (unentered_is c h inc at.0 old) in
     record {
-      bound = enter_bound p (inc == of) (entries (ledger_of h) inc) pairs (cover h inc) at.0 up old.exact front;
-      exact = enter_exact p (inc == of) (inc == of) (entries (ledger_of h) inc) pairs (cover h inc) (at.0 + 1) refl old.exact front;
+      bound = enter_bound p (above_floor h inc) (inc == of) (entries (ledger_of h) inc) pairs (cover h inc) at.0 up old.reaches front;
+      reaches = enter_reaches p (above_floor h inc) (inc == of) (entries (ledger_of h) inc) pairs (cover h inc) (at.0 + 1) old.reaches front;
       unborn = old.unborn;
+      unfloored = old.unfloored;
     }
 
 -- a Swept, by whether it is of this incarnation's shard
@@ -141,9 +151,13 @@ pub swept_caught : (c : Calendar) (h : History) (inc : ℕ) (at : Moment) (shard
 swept_caught c h inc at shard may old =
     record {
       bound = deed_bound (shard == shard_of inc) (cover h inc) at.0 (moved (cover h inc) (moment h) at.0 old.bound (moment_holds c h (steps.Swept at shard) may));
-      exact = old.exact ∙ swept_exact (occurs_in c (items h inc)) (shard == shard_of inc) (cover h inc) (at.0 + 1)
-          (swept_closed c h inc at shard may old (nth (rows_of (changes_of h)) inc) refl);
+      reaches =
+          reaches_on _ _ (above_floor h inc) (cover h inc) (cover (steps.Swept at shard upon h) inc) _ _ refl
+          (swept_exact (occurs_in c (items h inc)) (shard == shard_of inc) (cover h inc) (at.0 + 1)
+          (swept_closed c h inc at shard may old (nth (rows_of (changes_of h)) inc) refl))
+          (chosen_grows (shard == shard_of inc) (cover h inc) (at.0 + 1)) old.reaches;
       unborn = old.unborn;
+      unfloored = old.unfloored;
     }
 
 -- a Change, seen from the next incarnation
@@ -157,17 +171,28 @@ born_caught c h inc at write may old new =
     let top : cover (steps.Change at write upon h) inc ≡ cover_born at.0 write (cover h inc) =
     ap (λ b. cond b (cover_born at.0 write (cover h inc)) (cover_written at.0 write (nth rows inc) (cover h inc))) here in
     let up : cover h inc ≤ at.0 + 1 = moved (cover h inc) (moment h) at.0 old.bound (moment_holds c h (steps.Change at write) may) in
+    let past : nth rows inc ≡ None = nth_past rows inc (omega arith) in
     let none : instants_of (entries (ledger_of h) inc) ≡ [] =
-    old.exact ∙ no_items c (items h inc) (cover h inc) (old.unborn (nth_past rows inc (omega arith))) in
+    old.reaches.exact ∙ ap (filter old.reaches.kept) (no_items c (items h inc) (cover h inc) (old.unborn past)) in
+    let free : above_floor h inc ≡ 0 = old.unfloored past in
+    let reaches : Reaches (occurs_in c (items (steps.Change at write upon h) inc)) (above_floor h inc) (cover (steps.Change at write upon h) inc)
+    (instants_of (entries (ledger_of (steps.Change at write upon h)) inc)) =
     record {
-      bound = subst (λ m. m ≤ at.0 + 1) (sym top) (born_bound at.0 write (cover h inc) up);
+      kept = old.reaches.kept;
+      all = old.reaches.all;
       exact =
           ap instants_of (entries_cancelled (ended_by rows write) (ledger_of h) inc)
-          ∙ none ∙ born_exact c h at.0 write (cover h inc)
-          ∙ ap₂ (λ xs m. passing (occurs_in c xs) m) (sym all) (sym top);
+          ∙ none
+          ∙ ap (filter old.reaches.kept) (born_exact c h at.0 write (cover h inc) ∙ ap₂ (λ xs m. passing (occurs_in c xs) m) (sym all) (sym top));
+      under = omega arith;
+    } in
+    record {
+      bound = subst (λ m. m ≤ at.0 + 1) (sym top) (born_bound at.0 write (cover h inc) up);
+      reaches = reaches;
       unborn = λ unborn.
           all ∙ born_row h at.0 write (map (λ row. done_to at.0 (deed_of write row) row) rows) inc
           (new ∙ ap (λ n. n + 1) (sym (length-map rows (λ row. done_to at.0 (deed_of write row) row)))) unborn;
+      unfloored = λ unborn. free;
     }
 
 -- before a Change nothing that it touches is unentered
@@ -194,14 +219,16 @@ written_caught c h inc at write may old other =
     let up : cover h inc ≤ at.0 + 1 = moved (cover h inc) (moment h) at.0 old.bound (moment_holds c h (steps.Change at write) may) in
     record {
       bound = subst (λ m. m ≤ at.0 + 1) (sym top) (written_bound at.0 write (nth rows inc) (cover h inc) up);
-      exact =
-          ap instants_of (entries_cancelled (ended_by rows write) (ledger_of h) inc)
-          ∙ old.exact
-          ∙ written_exact c h at.0 write (nth rows inc) (items h inc) (cover h inc) up (touched_closed c h inc at write may old)
-          ∙ ap₂ (λ xs m. passing (occurs_in c xs) m) (sym all) (sym top);
+      reaches =
+          reaches_on _ _ (above_floor h inc) (cover h inc) (cover (steps.Change at write upon h) inc) _ _
+          (ap instants_of (entries_cancelled (ended_by rows write) (ledger_of h) inc))
+          (written_exact c h at.0 write (nth rows inc) (items h inc) (cover h inc) up (touched_closed c h inc at write may old)
+          ∙ ap₂ (λ xs m. passing (occurs_in c xs) m) (sym all) (sym top))
+          (subst (λ m. cover h inc ≤ m) (sym top) (written_grows at.0 write (nth rows inc) (cover h inc))) old.reaches;
       unborn = λ unborn.
           let before : nth rows inc ≡ None = none_before (λ row. done_to at.0 (deed_of write row) row) rows _ inc unborn in
           all ∙ ap₂ (λ row xs. items_written h at.0 write row xs) before (old.unborn before);
+      unfloored = λ unborn. old.unfloored (none_before (λ row. done_to at.0 (deed_of write row) row) rows _ inc unborn);
     }
 
 pub change_caught : (c : Calendar) (h : History) (inc : ℕ) (at : Moment) (write : Write) → MayFollow c h (steps.Change at write)

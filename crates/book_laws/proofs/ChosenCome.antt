@@ -13,7 +13,7 @@ use Rattle.sched_plain.specs.declared.outcome.Outcome.TheVariants as outcomes
 use Rattle.sched_plain.specs.declared.outcome.Reason.{Reason}
 use Rattle.plain_words.specs.declared.verdict.Verdict.{Verdict}
 use Rattle.plain_words.specs.declared.verdict.Verdict.TheVariants as verdicts
-use Rattle.sched_plain.specs.History.{History, beginning, ◌upon◌}
+use Rattle.sched_plain.specs.History.{History, beginning, based, ◌upon◌}
 use Rattle.plain_words.specs.Ids.{shard_of}
 use Rattle.sched_plain.specs.Moments.{moment}
 use Rattle.plain_words.specs.Lists.{or_else, only_if}
@@ -147,6 +147,7 @@ end_chosen verdicts.Final at e = refl
 
 pub come_in : (c : Calendar) (h : History) → IsLegal c h → (inc i : ℕ) → IsCome (moment h) (filed (ledger_of h) inc i)
 come_in c beginning legal inc i = tt
+come_in c (based b kept) legal inc i = absurd legal
 come_in c (steps.Boot at upon h) legal inc i =
     let f = filed (ledger_of h) inc i in
     loss_come at.0 (is_lost_in None inc) at.0 f (come_later (moment h) at.0 f (moment_holds c h (steps.Boot at) legal.1) (come_in c h legal.0 inc i))

@@ -21,7 +21,9 @@ use Rattle.sched_plain.specs.Entries.{entries, filed}
 use Rattle.sched_plain.specs.Marks.{cover}
 use Rattle.plain_words.proofs.ListLemmas.{nth_map, nth_more}
 use Rattle.sched_plain.proofs.LedgerLemmas.{filed_paired}
-use Rattle.book_laws.proofs.Passing.{in_list, mem_passing}
+use Rattle.book_laws.specs.EntryLaws.{is_among}
+use Rattle.book_laws.proofs.Floors.{among_filter}
+use Rattle.book_laws.proofs.Passing.{mem_passing}
 use Rattle.book_laws.proofs.Spans.{le_min}
 use Rattle.book_laws.proofs.Searches.{changed_here, changed_elsewhere}
 use Rattle.book_laws.proofs.Pairs.{paired_in}
@@ -108,7 +110,8 @@ row_there c h inc i old under occurs (Some row) there =
 pub filed_there : (c : Calendar) (h : History) (inc i : ℕ) → Caught c h inc → is_some (filed (ledger_of h) inc i) ≡ true → IsThere h inc i
 filed_there c h inc i old is =
     let p = occurs_in c (items h inc) in
-    let member : in_list i (passing p (cover h inc)) ≡ true =
-    sym (ap (in_list i) old.exact) ∙ sym (paired_in (entries (ledger_of h) inc) i) ∙ sym (filed_paired (ledger_of h) inc i) ∙ is in
+    let member : is_among i (passing p (cover h inc)) ≡ true =
+    among_filter old.reaches.kept (passing p (cover h inc)) i
+    (sym (ap (is_among i) old.reaches.exact) ∙ sym (paired_in (entries (ledger_of h) inc) i) ∙ sym (filed_paired (ledger_of h) inc i) ∙ is) in
     let parts = and_parts (nat_lt i (cover h inc)) (p i) (sym (mem_passing p (cover h inc) i) ∙ member) in
     row_there c h inc i old (ltb-true i (cover h inc) parts.0) parts.1 (nth (rows_of (changes_of h)) inc) refl

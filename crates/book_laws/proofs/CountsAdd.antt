@@ -1,5 +1,5 @@
 -- Each standing is one of nine, and each entry has one standing.
-use Rattle.std.proofs.Common.{◌≡◌, ℕ, ◌+◌, ◌==◌, true, Option, Some, None, is_some, List, [], ◌∷◌, length, refl, sym, ap₂, ◌∙◌, arith, length-append, option_to_list, option_map, flat_map}
+use Rattle.std.proofs.Common.{◌≡◌, ℕ, ◌+◌, ◌==◌, true, Option, Some, None, is_some, List, [], ◌∷◌, length, refl, sym, ap₂, ◌∙◌, arith, length-append, option_to_list, option_map, flat_map, ap}
 use Rattle.std.proofs.lemmas.Bool.{or_left, or_right, eq-eqb}
 use Rattle.sched_plain.specs.declared.entry.Filed.{Filed}
 use Rattle.sched_plain.specs.declared.standing.Standing.{Standing}
@@ -12,7 +12,8 @@ use Rattle.sched_plain.specs.Rows.{rows_of}
 use Rattle.sched_plain.specs.Ledger.{LedgerCall, ledger_of}
 use Rattle.sched_plain.specs.Entries.{entries, is_paired, filed}
 use Rattle.sched_plain.specs.Standing.{standing_of}
-use Rattle.sched_plain.specs.Report.{standings_of, all_standings, number_of, is_done, is_final, is_closed_by_attempts, is_closed_by_age, is_cancelled, is_waiting, is_due, is_live, is_exhausted}
+use Rattle.sched_plain.specs.Base.{sum_of_folded}
+use Rattle.sched_plain.specs.Report.{folded, standings_of, all_standings, number_of, is_done, is_final, is_closed_by_attempts, is_closed_by_age, is_cancelled, is_waiting, is_due, is_live, is_exhausted}
 use Rattle.sched_plain.proofs.LedgerLemmas.{filed_paired}
 use Rattle.book_laws.specs.CountLaws.{CountsAddUp, EntriesAreCounted}
 
@@ -34,7 +35,10 @@ length_nine (standings.Waiting until ∷ all) = let old : length all ≡ nine al
 length_nine (standings.Due ∷ all) = let old : length all ≡ nine all = length_nine all in omega arith
 
 pub counts_add_up : CountsAddUp
-counts_add_up h t = length_nine (all_standings (ledger_of h) (length (rows_of (changes_of h))) t)
+counts_add_up h t =
+    let all = all_standings (ledger_of h) (length (rows_of (changes_of h))) t in
+    let nine_of : length all ≡ nine all = length_nine all in
+    omega arith
 
 -- what is filed for an occurrence has one standing
 one_standing : (f : Option Filed) (t : ℕ) → is_some f ≡ true → length (option_to_list (option_map (λ x. standing_of x t) f)) ≡ 1
@@ -65,4 +69,5 @@ all_counted calls t (inc ∷ incs) =
     ∙ sym (length-append (entries calls inc) (flat_map (λ k. entries calls k) incs))
 
 pub entries_are_counted : EntriesAreCounted
-entries_are_counted h t = all_counted (ledger_of h) t (numbers 1 (length (rows_of (changes_of h))))
+entries_are_counted h t =
+    ap (λ n. n + sum_of_folded (folded h)) (all_counted (ledger_of h) t (numbers 1 (length (rows_of (changes_of h)))))

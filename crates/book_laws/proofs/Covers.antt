@@ -1,5 +1,5 @@
 -- The entries of an incarnation are its occurrences below its cover: the induction over every legal history.
-use Rattle.std.proofs.Common.{◌≡◌, ℕ, ◌+◌, ◌≤◌, max, nat_le, Bool, true, false, cond, Option, Some, None, List, [], ◌++◌, length, refl, sym, ap, ◌∙◌, arith}
+use Rattle.std.proofs.Common.{◌≡◌, ℕ, ◌+◌, ◌≤◌, max, nat_le, Bool, true, false, cond, Option, Some, None, List, [], ◌++◌, length, refl, sym, ap, ◌∙◌, arith, le_refl}
 use Rattle.sched_plain.specs.declared.row.Row.{Row}
 use Rattle.sched_plain.specs.declared.write.Write.{Write}
 use Rattle.sched_plain.specs.declared.write.Write.TheVariants as writes
@@ -15,19 +15,22 @@ use Rattle.sched_plain.specs.Occurrences.{occurs, occurs_in, occ_below}
 use Rattle.plain_words.specs.Lists.{passing}
 use Rattle.sched_plain.specs.Ledger.{ledger_of}
 use Rattle.sched_plain.specs.Entries.{entries, instants_of}
-use Rattle.sched_plain.specs.Marks.{unentered, cover_written, cover_born, cover}
+use Rattle.sched_plain.specs.Marks.{above_floor, unentered, cover_written, cover_born, cover}
 use Rattle.plain_words.proofs.Booleans.{and_false, or_false}
 use Rattle.book_laws.proofs.Passing.{from_on, passing_same, passing_none}
+use Rattle.book_laws.proofs.Floors.{Reaches}
 use Rattle.book_laws.proofs.Fronts.{reach}
 use Rattle.book_laws.proofs.Spans.{done_stays, opened_later}
 use Rattle.book_laws.proofs.Searches.{last_there}
 use Rattle.book_laws.proofs.Pairs.{open_is}
 
--- the cover is at most the next moment, the entries are the occurrences below it, and who is not created has no items
+-- the cover is at most the next moment, the entries are the occurrences below it but for those folded away below the
+-- floor, and who is not created has neither items nor a floor
 pub record Caught (c : Calendar) (h : History) (inc : ℕ) : Type 0 where
   pub bound : cover h inc ≤ moment h + 1
-  pub exact : instants_of (entries (ledger_of h) inc) ≡ passing (occurs_in c (items h inc)) (cover h inc)
+  pub reaches : Reaches (occurs_in c (items h inc)) (above_floor h inc) (cover h inc) (instants_of (entries (ledger_of h) inc))
   pub unborn : nth (rows_of (changes_of h)) inc ≡ None → items h inc ≡ []
+  pub unfloored : nth (rows_of (changes_of h)) inc ≡ None → above_floor h inc ≡ 0
 
 -- no items have no occurrence
 pub no_items : (c : Calendar) (all : List Item) (m : ℕ) → all ≡ [] → passing (occurs_in c all) m ≡ []
@@ -46,7 +49,8 @@ same_below c new old m at le same = passing_same _ _ m (λ i lt. let up : i ≤ 
 pub unentered_is : (c : Calendar) (h : History) (inc t : ℕ) → Caught c h inc
     → unentered c h inc t ≡ passing (from_on (cover h inc) (occurs_in c (items h inc))) (t + 1)
 unfolding occ_below
-unentered_is c h inc t old = open_is (occurs_in c (items h inc)) (entries (ledger_of h) inc) (cover h inc) (t + 1) old.exact
+unentered_is c h inc t old =
+    open_is (occurs_in c (items h inc)) (entries (ledger_of h) inc) (above_floor h inc) (cover h inc) (t + 1) old.reaches
 
 -- a deed of a Change, before which nothing that it touches is unentered
 pub deed_exact : (c : Calendar) (h : History) (at created : ℕ) (deed : Deed) (all : List Item) (m : ℕ) → m ≤ at + 1
@@ -59,6 +63,10 @@ deed_exact c h at created (Renews content) all m le closed =
 deed_exact c h at created Ends all m le closed =
     reach (occurs_in c all) m (at + 1) (closed refl)
     ∙ same_below c (items_done h at created Ends all) all (max m (at + 1)) at (omega arith) (done_stays c h at created Ends all)
+
+pub chosen_grows : (b : Bool) (m n : ℕ) → m ≤ cond b (max m n) m
+chosen_grows true m n = omega arith
+chosen_grows false m n = le_refl m
 
 pub deed_bound : (touched : Bool) (m at : ℕ) → m ≤ at + 1 → cond touched (max m (at + 1)) m ≤ at + 1
 deed_bound true m at le = omega arith
@@ -75,6 +83,10 @@ written_exact c h at write (Some row) all m le closed =
 pub written_bound : (at : ℕ) (write : Write) (row : Option Row) (m : ℕ) → m ≤ at + 1 → cover_written at write row m ≤ at + 1
 written_bound at write None m le = le
 written_bound at write (Some row) m le = deed_bound (touches (deed_of write row)) m at le
+
+pub written_grows : (at : ℕ) (write : Write) (row : Option Row) (m : ℕ) → m ≤ cover_written at write row m
+written_grows at write None m = le_refl m
+written_grows at write (Some row) m = chosen_grows (touches (deed_of write row)) m (at + 1)
 
 -- a Change, seen from the incarnation that it creates, if it creates one
 pub born_exact : (c : Calendar) (h : History) (at : ℕ) (write : Write) (m : ℕ) → [] ≡ passing (occurs_in c (items_born h at write)) (cover_born at write m)

@@ -1,10 +1,10 @@
 -- The entries of every legal history are its occurrences up to the marks.
-use Rattle.std.proofs.Common.{◌≡◌, ◌+◌, ℕ, zero, suc, ◌<◌, nat_le, Bool, true, false, cond, Option, Some, None, AllPairs, length, refl, sym, ap, ◌∙◌, subst, arith, add-one, filter}
+use Rattle.std.proofs.Common.{◌≡◌, ◌+◌, ℕ, zero, suc, ◌<◌, ◌≤◌, nat_le, Bool, true, false, cond, ◌&&◌, Option, Some, None, AllPairs, length, refl, sym, ap, ◌∙◌, subst, arith, add-one, filter}
 use Rattle.std.proofs.Math.Bool.{and_comm}
 use Rattle.std.proofs.lemmas.Bool.{and_from, le-leb, true≢false}
 use Rattle.sched_plain.specs.declared.row.Row.{Row}
 use Rattle.sched_plain.specs.declared.step.Step.TheVariants as steps
-use Rattle.sched_plain.specs.History.{History, beginning, ◌upon◌}
+use Rattle.sched_plain.specs.History.{History, beginning, based, ◌upon◌}
 use Rattle.plain_words.specs.Lists.{nth}
 use Rattle.sched_plain.specs.Changes.{changes_of}
 use Rattle.sched_plain.specs.Rows.{rows_of}
@@ -12,16 +12,27 @@ use Rattle.sched_plain.specs.Items.{items}
 use Rattle.expressions.specs.Calendar.{Calendar}
 use Rattle.sched_plain.specs.Occurrences.{occurs_in, occ_below, occ}
 use Rattle.plain_words.specs.Lists.{passing}
-use Rattle.sched_plain.specs.Marks.{one_before, is_created, cover}
+use Rattle.sched_plain.specs.Ledger.{ledger_of}
+use Rattle.sched_plain.specs.Entries.{entries, instants_of}
+use Rattle.sched_plain.specs.Marks.{above_floor, one_before, is_created, cover, mark}
 use Rattle.sched_plain.specs.Legal.{IsLegal}
-use Rattle.book_laws.specs.EntryLaws.{occ_upto, EntriesAreOccurrences, EntriesRise, UnenteredAreTheRest}
+use Rattle.plain_words.proofs.ListLemmas.{filter_every}
+use Rattle.book_laws.specs.EntryLaws.{occ_upto, is_among, EntriesOccur, OccurrencesAreEntered, EntriesAreOccurrences, EntriesRise, UnenteredAreTheRest}
 use Rattle.book_laws.proofs.Passing.{from_on, passing_same, filter_passing, passing_rises}
+use Rattle.book_laws.proofs.Floors.{among_filter, kept_among}
 use Rattle.book_laws.proofs.Searches.{nth_within}
 use Rattle.book_laws.proofs.Covers.{Caught, no_items, unentered_is}
 use Rattle.book_laws.proofs.CaughtSteps.{boot_caught, zone_caught, change_caught, enter_caught, lease_caught, complete_caught, swept_caught, plain_bound}
 
 pub caught : (c : Calendar) (h : History) → IsLegal c h → (inc : ℕ) → Caught c h inc
-caught c beginning legal inc = record { bound = omega arith; exact = refl; unborn = λ none. refl }
+caught c beginning legal inc =
+    record {
+      bound = omega arith;
+      reaches = record { kept = λ i. true; all = λ i le. refl; exact = refl; under = omega arith };
+      unborn = λ none. refl;
+      unfloored = λ none. refl;
+    }
+caught c (based b kept) legal inc = absurd legal
 caught c (steps.Boot at upon h) legal inc = boot_caught c h inc at legal.1 (caught c h legal.0 inc)
 caught c (steps.Zone at name bytes upon h) legal inc = zone_caught c h inc at name bytes legal.1 (caught c h legal.0 inc)
 caught c (steps.Change at write upon h) legal inc = change_caught c h inc at write legal.1 (caught c h legal.0 inc)
@@ -29,16 +40,16 @@ caught c (steps.Enter at of pairs upon h) legal inc = enter_caught c h inc at of
 caught c (steps.Lease at shard worker epoch until upon h) legal inc = lease_caught c h inc at shard worker epoch until legal.1 (caught c h legal.0 inc)
 caught c (steps.Release at shard worker epoch upon h) legal inc =
     let old = caught c h legal.0 inc in
-    record { bound = plain_bound c h (steps.Release at shard worker epoch) legal.1 inc old; exact = old.exact; unborn = old.unborn }
+    record { bound = plain_bound c h (steps.Release at shard worker epoch) legal.1 inc old; reaches = old.reaches; unborn = old.unborn; unfloored = old.unfloored }
 caught c (steps.Begin at of instant number epoch upon h) legal inc =
     let old = caught c h legal.0 inc in
-    record { bound = plain_bound c h (steps.Begin at of instant number epoch) legal.1 inc old; exact = old.exact; unborn = old.unborn }
+    record { bound = plain_bound c h (steps.Begin at of instant number epoch) legal.1 inc old; reaches = old.reaches; unborn = old.unborn; unfloored = old.unfloored }
 caught c (steps.End at of instant number verdict status upon h) legal inc =
     let old = caught c h legal.0 inc in
-    record { bound = plain_bound c h (steps.End at of instant number verdict status) legal.1 inc old; exact = old.exact; unborn = old.unborn }
+    record { bound = plain_bound c h (steps.End at of instant number verdict status) legal.1 inc old; reaches = old.reaches; unborn = old.unborn; unfloored = old.unfloored }
 caught c (steps.Close at of instant reason upon h) legal inc =
     let old = caught c h legal.0 inc in
-    record { bound = plain_bound c h (steps.Close at of instant reason) legal.1 inc old; exact = old.exact; unborn = old.unborn }
+    record { bound = plain_bound c h (steps.Close at of instant reason) legal.1 inc old; reaches = old.reaches; unborn = old.unborn; unfloored = old.unfloored }
 caught c (steps.Complete at removed upon h) legal inc = complete_caught c h inc at removed legal.1 (caught c h legal.0 inc)
 caught c (steps.Swept at shard upon h) legal inc = swept_caught c h inc at shard legal.1 (caught c h legal.0 inc)
 
@@ -63,15 +74,37 @@ below_mark c h inc old true is = sym (occ_cover c h inc (cover h inc))
 below_mark c h inc old false not =
     no_items c (items h inc) (cover h inc) (old.unborn (no_row h inc not (nth (rows_of (changes_of h)) inc) refl))
 
-pub entries_exact : EntriesAreOccurrences
-entries_exact c h legal inc =
+-- the instants of the entries are the occurrences up to the mark that are kept
+entered_are : (c : Calendar) (h : History) (legal : IsLegal c h) (inc : ℕ)
+    → instants_of (entries (ledger_of h) inc) ≡ filter (caught c h legal inc).reaches.kept (occ_upto c h inc (mark h inc))
+entered_are c h legal inc =
     let old = caught c h legal inc in
-    old.exact ∙ below_mark c h inc old (is_created h inc) refl
+    old.reaches.exact ∙ ap (filter old.reaches.kept) (below_mark c h inc old (is_created h inc) refl)
+
+pub entries_occur : EntriesOccur
+entries_occur c h legal inc i entered =
+    among_filter (caught c h legal inc).reaches.kept (occ_upto c h inc (mark h inc)) i
+    (sym (ap (is_among i) (entered_are c h legal inc)) ∙ entered)
+
+pub occurrences_entered : OccurrencesAreEntered
+occurrences_entered c h legal inc i above occurs =
+    let old = caught c h legal inc in
+    ap (is_among i) (entered_are c h legal inc)
+    ∙ kept_among old.reaches.kept (occ_upto c h inc (mark h inc)) i (old.reaches.all i above) occurs
+
+pub entries_exact : EntriesAreOccurrences
+entries_exact c h legal inc unfloored =
+    let old = caught c h legal inc in
+    entered_are c h legal inc
+    ∙ filter_every old.reaches.kept (occ_upto c h inc (mark h inc)) (λ i. old.reaches.all i (let low : above_floor h inc ≤ i = omega (arith, unfloored) in low))
 
 pub entries_rise : EntriesRise
 entries_rise c h legal inc =
     let old = caught c h legal inc in
-    subst (λ xs. AllPairs (λ earlier later. earlier < later) xs) (sym old.exact) (passing_rises (occurs_in c (items h inc)) (cover h inc))
+    let p = occurs_in c (items h inc) in
+    subst (λ xs. AllPairs (λ earlier later. earlier < later) xs)
+    (sym (old.reaches.exact ∙ filter_passing old.reaches.kept p (cover h inc)))
+    (passing_rises (λ i. p i && old.reaches.kept i) (cover h inc))
 
 from_cover : (c : Calendar) (h : History) (inc m t : ℕ)
     → passing (from_on m (occurs_in c (items h inc))) (t + 1) ≡ filter (λ i. nat_le m i) (occ c h inc t)

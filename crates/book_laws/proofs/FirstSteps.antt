@@ -2,7 +2,7 @@
 use Rattle.std.proofs.Common.{◌≡◌, ℕ, ◌+◌, ◌<◌, ◌≤◌, cond, sym, ap, subst, inl, inr, arith}
 use Rattle.std.proofs.lemmas.Bool.{cases_lt, lt-ltb, le-ltb}
 use Rattle.sched_plain.specs.declared.step.Step.{Step}
-use Rattle.sched_plain.specs.History.{History, beginning, ◌upon◌, count, first, Extends, as_it_was, with_step}
+use Rattle.sched_plain.specs.History.{History, beginning, based, ◌upon◌, count, first, Extends, as_it_was, with_step}
 use Rattle.book_laws.specs.PrefixLaws.{PrefixesAreLegal, FirstsArePrefixes}
 
 first_less : (n : ℕ) (s : Step) (h : History) → n < count h + 1 → first n (s upon h) ≡ first n h
@@ -13,6 +13,7 @@ first_all n s h le = ap (λ b. cond b (first n h) (s upon h)) (le-ltb n (count h
 
 pub first_of : FirstsArePrefixes
 first_of n beginning = as_it_was
+first_of n (based b kept) = as_it_was
 first_of n (s upon h) =
     elim (cases_lt n (count h + 1)) [
       | inl lt ↦ subst (λ x. Extends x (s upon h)) (sym (first_less n s h lt)) (with_step s (first_of n h))
@@ -22,6 +23,7 @@ first_of n (s upon h) =
 -- fewer first steps are a beginning of more
 pub first_extends : (m n : ℕ) (h : History) → m ≤ n → Extends (first m h) (first n h)
 first_extends m n beginning le = as_it_was
+first_extends m n (based b kept) le = as_it_was
 first_extends m n (s upon h) le =
     elim (cases_lt n (count h + 1)) [
       | inl lt ↦

@@ -7,7 +7,7 @@ use Rattle.sched_plain.specs.declared.step.Step.TheVariants as steps
 use Rattle.sched_plain.specs.declared.outcome.Reason.{Reason}
 use Rattle.plain_words.specs.declared.verdict.Verdict.{Verdict}
 use Rattle.sched_plain.specs.declared.write.Write.{Write}
-use Rattle.sched_plain.specs.History.{History, beginning, ◌upon◌}
+use Rattle.sched_plain.specs.History.{History, beginning, based, ◌upon◌}
 use Rattle.sched_plain.specs.Changes.{changes_of}
 use Rattle.sched_plain.specs.Rows.{rows_of}
 use Rattle.expressions.specs.Calendar.{Calendar}
@@ -98,6 +98,7 @@ close_lettered c h at of instant reason inc i may here old =
 
 pub lettered : (c : Calendar) (h : History) → IsLegal c h → (inc i : ℕ) → Lettered h inc i
 lettered c beginning legal inc i = refl
+lettered c (based b kept) legal inc i = absurd legal
 lettered c (steps.Boot at upon h) legal inc i =
     lettered c h legal.0 inc i
     ∙ same_outcome (decision h inc i) _ (queue_named h inc i) inc i (edit_same (is_lost_in None inc) (with_loss at.0) (λ e. refl) (filed (ledger_of h) inc i))

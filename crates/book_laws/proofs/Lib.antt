@@ -7,6 +7,7 @@ mod Places
 mod MomentsRise
 mod TokensKept
 mod Passing
+mod Floors
 mod Fronts
 mod Spans
 mod Searches

@@ -14,7 +14,7 @@ use Rattle.sched_plain.specs.declared.step.Step.TheVariants as steps
 use Rattle.sched_plain.specs.declared.outcome.Outcome.TheVariants as outcomes
 use Rattle.plain_words.specs.declared.verdict.Verdict.{Verdict}
 use Rattle.plain_words.specs.declared.verdict.Verdict.TheVariants as verdicts
-use Rattle.sched_plain.specs.History.{History, beginning, ◌upon◌}
+use Rattle.sched_plain.specs.History.{History, beginning, based, ◌upon◌}
 use Rattle.plain_words.specs.Ids.{shard_of}
 use Rattle.plain_words.specs.Lists.{numbers, or_else, only_if}
 use Rattle.sched_plain.specs.Changes.{changes_of}
@@ -22,7 +22,7 @@ use Rattle.sched_plain.specs.Rows.{rows_of}
 use Rattle.expressions.specs.Calendar.{Calendar}
 use Rattle.sched_plain.specs.Leases.{holder, is_taking}
 use Rattle.sched_plain.specs.Ledger.{LedgerCall, Finished, Cancelled, Lost, policy_of, ended_by, ledger_of}
-use Rattle.sched_plain.specs.Entries.{new_entry, decided_as, with_begin, with_end, outcome_of, with_loss, changed_if, is_lost_in, filed_by, filed}
+use Rattle.sched_plain.specs.Entries.{new_entry, decided_as, with_begin, with_end, outcome_of, with_loss, changed_if, is_lost_in, filed_by, filed, with_missed}
 use Rattle.sched_plain.specs.Attempts.{begun_attempt, end_attempt, lose_attempt, attempts}
 use Rattle.sched_plain.specs.Standing.{standing_of}
 use Rattle.sched_plain.specs.Rules.{begin_table}
@@ -69,6 +69,13 @@ decided_leaves outcome = record { used = λ e. refl }
 
 pub loss_leaves : (moment : ℕ) → LeavesCount (with_loss moment)
 loss_leaves moment = record { used = λ e. refl }
+
+missed_used : (b : Bool) (moment : ℕ) (e : Entry) → (cond b (with_loss moment e) e).used ≡ e.used
+missed_used true moment e = refl
+missed_used false moment e = refl
+
+pub missed_leaves : (number moment : ℕ) → LeavesCount (with_missed number moment)
+missed_leaves number moment = record { used = λ e. missed_used (number == e.used) moment e }
 
 pub end_leaves : (verdict : Verdict) (moment : ℕ) → LeavesCount (with_end verdict moment)
 end_leaves verdicts.Done moment = record { used = λ e. refl }
@@ -185,6 +192,7 @@ at_same P inc of i at e given =
 
 pub counted_in : (c : Calendar) (h : History) → IsLegal c h → (inc i : ℕ) → Counted (ledger_of h) inc i
 counted_in c beginning legal inc i = record { numbers = refl; within = omega arith }
+counted_in c (based b kept) legal inc i = absurd legal
 counted_in c (steps.Boot at upon h) legal inc i = lost_counted None at.0 (ledger_of h) inc i (counted_in c h legal.0 inc i)
 counted_in c (steps.Zone at name bytes upon h) legal inc i = counted_in c h legal.0 inc i
 counted_in c (steps.Change at write upon h) legal inc i =

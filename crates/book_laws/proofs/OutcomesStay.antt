@@ -14,8 +14,8 @@ use Rattle.plain_words.specs.declared.verdict.Verdict.{Verdict}
 use Rattle.plain_words.specs.declared.verdict.Verdict.TheVariants as verdicts
 use Rattle.sched_plain.specs.History.{History, ◌upon◌, first, as_it_was, with_step}
 use Rattle.plain_words.specs.Lists.{or_else}
-use Rattle.sched_plain.specs.Ledger.{LedgerCall, Entered, Begun, Finished, Closed, Cancelled, Lost, ledger_of}
-use Rattle.sched_plain.specs.Entries.{decided_as, with_begin, with_end, outcome_of, with_loss, changed_if, is_lost_in, filed_by, filed}
+use Rattle.sched_plain.specs.Ledger.{LedgerCall, Entered, Begun, Finished, Closed, Cancelled, Lost, ledger_of, Missed}
+use Rattle.sched_plain.specs.Entries.{decided_as, with_begin, with_end, outcome_of, with_loss, changed_if, is_lost_in, filed_by, filed, with_missed}
 use Rattle.sched_plain.specs.Standing.{standing_of}
 use Rattle.sched_plain.specs.Rules.{close_table}
 use Rattle.sched_plain.specs.Legal.{MayFollow}
@@ -48,6 +48,10 @@ end_leaves verdicts.Done moment outcome e is = ap (λ o. or_else o (Some outcome
 end_leaves verdicts.Retry moment outcome e is = is
 end_leaves verdicts.Final moment outcome e is = ap (λ o. or_else o (Some outcomes.Final)) is
 
+missed_stays : (b : Bool) (moment : ℕ) (e : Entry) → (cond b (with_loss moment e) e).outcome ≡ e.outcome
+missed_stays true moment e = refl
+missed_stays false moment e = refl
+
 entered_stays : (b : Bool) (old new : Option Filed) (outcome : Outcome) → decided old ≡ Some outcome
     → decided (cond b (or_else old new) old) ≡ Some outcome
 entered_stays true None new outcome is = let clash : ⊥ = cc in absurd clash
@@ -67,6 +71,9 @@ call_stays inc i outcome (Cancelled of) before is =
     edit_stays (inc == of) (decided_as outcomes.Cancelled) outcome (decided_leaves outcomes.Cancelled outcome) (filed before inc i) is
 call_stays inc i outcome (Lost shard moment) before is =
     edit_stays (is_lost_in shard inc) (with_loss moment) outcome (λ e stays. stays) (filed before inc i) is
+call_stays inc i outcome (Missed of at number moment) before is =
+    edit_stays (inc == of && i == at) (with_missed number moment) outcome
+    (λ e stays. missed_stays (number == e.used) moment e ∙ stays) (filed before inc i) is
 
 step_stays : (h : History) (s : Step) (inc i : ℕ) (outcome : Outcome) → decision h inc i ≡ Some outcome → decision (s upon h) inc i ≡ Some outcome
 step_stays h s inc i outcome is =

@@ -1,21 +1,17 @@
 -- The numbers below a bound that pass a test: their parts, their members, a filter of them, and their order.
 use Rattle.std.proofs.Common.{◌≡◌, ℕ, zero, suc, ◌<◌, ◌≤◌, ◌==◌, nat_le, nat_lt, Bool, true, false, not, cond, ◌&&◌, ◌||◌, List, [], ◌∷◌, ◌++◌, filter, All, AllPairs, refl, sym, ap, ap₂, ◌∙◌, inl, inr, arith, append-nil, append_assoc, zero-le, lt-suc_self}
-use Rattle.std.specs.List.{list_any}
 use Rattle.std.proofs.lemmas.Bool.{cases_lt, cases_order, le-ltb, lt-ltb, le-leb, lt-leb, eq-eqb, ne_eqb}
 use Rattle.std.proofs.lemmas.List.Elements.{filter-append, All-push, All-weaker, All-nil, All-get_or}
 use Rattle.std.proofs.lemmas.List.Folds.{list_any-append}
 use Rattle.std.proofs.lemmas.List.Quantifiers.{all_pairs_push}
 use Rattle.plain_words.specs.Lists.{put_if}
 use Rattle.plain_words.specs.Lists.{passing}
+use Rattle.book_laws.specs.EntryLaws.{is_among}
 use Rattle.plain_words.proofs.Booleans.{and_false, and_true, by_bool, or_false}
 
 -- the test, from a number on
 abbrev pub from_on : ℕ → (ℕ → Bool) → ℕ → Bool
 from_on m test i = nat_le m i && test i
-
--- the number is in the list
-abbrev pub in_list : ℕ → List ℕ → Bool
-in_list i xs = list_any (λ x. i == x) xs
 
 -- tests that agree below a bound let the same numbers pass
 pub passing_same : (p q : ℕ → Bool) (n : ℕ) → ((i : ℕ) → i < n → p i ≡ q i) → passing p n ≡ passing q n
@@ -54,9 +50,9 @@ passing_split p m (suc n) le =
           ∙ ap (λ b. passing p m ++ put_if b n (passing (from_on m p) n)) (sym here)
     ]
 
-in_put : (b : Bool) (n : ℕ) (xs : List ℕ) (i : ℕ) → in_list i (put_if b n xs) ≡ (in_list i xs || (b && (i == n)))
-in_put true n xs i = list_any-append (λ x. i == x) xs (n ∷ []) ∙ ap (λ b. in_list i xs || b) (or_false (i == n))
-in_put false n xs i = sym (or_false (in_list i xs))
+in_put : (b : Bool) (n : ℕ) (xs : List ℕ) (i : ℕ) → is_among i (put_if b n xs) ≡ (is_among i xs || (b && (i == n)))
+in_put true n xs i = list_any-append (λ x. i == x) xs (n ∷ []) ∙ ap (λ b. is_among i xs || b) (or_false (i == n))
+in_put false n xs i = sym (or_false (is_among i xs))
 
 mem_bool : (p : ℕ → Bool) (n i : ℕ) → ((nat_lt i n && p i) || (p n && (i == n))) ≡ (nat_lt i (suc n) && p i)
 mem_bool p n i =
@@ -82,7 +78,7 @@ mem_bool p n i =
     ]
 
 -- a number is among those that pass where it is below the bound and passes
-pub mem_passing : (p : ℕ → Bool) (n i : ℕ) → in_list i (passing p n) ≡ (nat_lt i n && p i)
+pub mem_passing : (p : ℕ → Bool) (n i : ℕ) → is_among i (passing p n) ≡ (nat_lt i n && p i)
 mem_passing p zero i = ap (λ b. b && p i) (sym (le-ltb i 0 zero-le))
 mem_passing p (suc n) i =
     in_put (p n) n (passing p n) i ∙ ap (λ b. b || (p n && (i == n))) (mem_passing p n i) ∙ mem_bool p n i
@@ -115,9 +111,9 @@ rest_bool m i true =
 rest_bool m i false = sym (and_false (nat_le m i))
 
 -- what passes without what passes below m is what passes from m on
-pub filter_rest : (p : ℕ → Bool) (m n : ℕ) → filter (λ i. not (in_list i (passing p m))) (passing p n) ≡ passing (from_on m p) n
+pub filter_rest : (p : ℕ → Bool) (m n : ℕ) → filter (λ i. not (is_among i (passing p m))) (passing p n) ≡ passing (from_on m p) n
 filter_rest p m n =
-    filter_passing (λ i. not (in_list i (passing p m))) p n
+    filter_passing (λ i. not (is_among i (passing p m))) p n
     ∙ passing_same _ _ n (λ i lt. ap (λ b. p i && not b) (mem_passing p m i) ∙ rest_bool m i (p i))
 
 -- each that passes is below the bound, and below each later one

@@ -2,7 +2,9 @@
 use Rattle.std.proofs.Common.{◌≡◌, ℕ, ◌+◌, ◌≤◌, cond, Some, ap, sym, ◌∙◌, inl, inr, arith}
 use Rattle.std.proofs.lemmas.Bool.{cases_eq, eq-eqb, ne_eqb}
 use Rattle.sched_plain.specs.declared.step.Step.{Step}
-use Rattle.sched_plain.specs.History.{History, beginning, ◌upon◌, count, step_at}
+use Rattle.expressions.specs.Calendar.{Calendar}
+use Rattle.sched_plain.specs.Legal.{IsLegal}
+use Rattle.sched_plain.specs.History.{History, beginning, based, ◌upon◌, count, step_at}
 use Rattle.plain_words.proofs.Options.{some_same}
 
 -- the step at the last place is the newest
@@ -22,10 +24,11 @@ pub found_below : (s t : Step) (h : History) (place : ℕ) → (place ≡ count 
 found_below s t h place below e = sym (step_below s h place below) ∙ e
 
 -- a place where a step stands is at most the count
-pub place_bound : (h : History) (place : ℕ) (t : Step) → step_at h place ≡ Some t → place ≤ count h
-place_bound beginning place t e = cc
-place_bound (s upon h) place t e =
+pub place_bound : (c : Calendar) (h : History) → IsLegal c h → (place : ℕ) (t : Step) → step_at h place ≡ Some t → place ≤ count h
+place_bound c beginning legal place t e = cc
+place_bound c (based b kept) legal place t e = absurd legal
+place_bound c (s upon h) legal place t e =
     elim (cases_eq place (count h + 1)) [
       | inl top ↦ omega arith
-      | inr below ↦ let under : place ≤ count h = place_bound h place t (found_below s t h place below e) in omega arith
+      | inr below ↦ let under : place ≤ count h = place_bound c h legal.0 place t (found_below s t h place below e) in omega arith
     ]

@@ -1,14 +1,15 @@
 -- A token stands in at most one Change: a Change keeps its token, and a later one may not bring it again.
-use Rattle.std.proofs.Common.{◌≡◌, ℕ, ◌+◌, ◌<◌, ◌≤◌, true, cond, Option, Some, None, List, [], ◌∷◌, ◌++◌, refl, sym, ap, ◌∙◌, subst, inl, inr, arith}
+use Rattle.std.proofs.Common.{◌≡◌, ℕ, ◌+◌, ◌<◌, ◌≤◌, true, cond, Option, Some, None, List, [], ◌∷◌, ◌++◌, refl, sym, ap, ◌∙◌, subst, inl, inr, arith, Bool, false, map}
 use Rattle.std.specs.Option.{option_and_then, option_or}
 use Rattle.std.proofs.lemmas.Bool.{cases_eq, cases_order, eq-eqb}
 use Rattle.std.proofs.lemmas.List.Folds.{find-append}
 use Rattle.sched_plain.specs.declared.step.Step.{Step}
 use Rattle.sched_plain.specs.declared.step.Step.TheVariants as steps
 use Rattle.sched_plain.specs.declared.write.Write.{Write}
-use Rattle.sched_plain.specs.History.{History, beginning, ◌upon◌, count}
+use Rattle.sched_plain.specs.Base.{kept_at}
+use Rattle.sched_plain.specs.History.{History, beginning, based, ◌upon◌, count}
 use Rattle.sched_plain.specs.Rows.{same_text}
-use Rattle.sched_plain.specs.Tokens.{Kept, token_of, kept_by, kept_of, kept_under, kept_place}
+use Rattle.sched_plain.specs.Tokens.{Kept, token_of, kept_by, kept_of, kept_under, kept_place, placed_at}
 use Rattle.expressions.specs.Calendar.{Calendar}
 use Rattle.sched_plain.specs.Legal.{IsLegal}
 use Rattle.plain_words.proofs.Options.{map_none}
@@ -62,9 +63,23 @@ keeps write place (Some other) token has e =
     let clash : Some kept ≡ None = sym there ∙ e in
     cc
 
+unplaced_one : (b : Bool) (k placed : Kept) (all others : Option Kept) → (others ≡ None → all ≡ None)
+    → cond b (Some placed) others ≡ None → cond b (Some k) all ≡ None
+unplaced_one true k placed all others same e = cc
+unplaced_one false k placed all others same e = same e
+
+-- what is kept under a token is so under any places
+unplaced : (places : List ℕ) (all : List Kept) (token : List ℕ) → kept_under (map (placed_at places) all) token ≡ None → kept_under all token ≡ None
+unplaced places [] token e = refl
+unplaced places (k ∷ all) token e =
+    unplaced_one (same_text token k.token) k (placed_at places k) (kept_under all token) (kept_under (map (placed_at places) all) token)
+    (unplaced places all token) e
+
 -- the token of a Change is kept from then on
 kept_since : (h : History) (place : ℕ) (token : List ℕ) → HasToken h place token → kept_under (kept_of h) token ≡ None → ⊥
 kept_since beginning place token has e = let never = has.2 in cc
+kept_since (based b kept) place token has e =
+    kept_since kept (kept_at b.places place) token has (unplaced b.places (kept_of kept) token e)
 kept_since (s upon h) place token has e =
     elim (cases_eq place (count h + 1)) [
       | inl top ↦
@@ -80,6 +95,7 @@ kept_since (s upon h) place token has e =
 -- no later Change brings it again
 not_again : (c : Calendar) (h : History) → IsLegal c h → (token : List ℕ) (one later : ℕ) → HasToken h one token → HasToken h later token → one < later → ⊥
 not_again c beginning legal token one later first second lt = let never = first.2 in cc
+not_again c (based b kept) legal token one later first second lt = absurd legal
 not_again c (s upon h) legal token one later first second lt =
     elim (cases_eq later (count h + 1)) [
       | inl top ↦
@@ -92,7 +108,7 @@ not_again c (s upon h) legal token one later first second lt =
           kept_since h one token (first.0, first.1, before, first.3) (map_none (λ k. k.place) (kept_under (kept_of h) token) unkept)
       | inr below ↦
           let before = found_below s (steps.Change second.0 second.1) h later below second.2 in
-          let under : later ≤ count h = place_bound h later (steps.Change second.0 second.1) before in
+          let under : later ≤ count h = place_bound c h legal.0 later (steps.Change second.0 second.1) before in
           let lower : one ≡ count h + 1 → ⊥ = λ same. omega arith in
           not_again c h legal.0 token one later
           (first.0, first.1, found_below s (steps.Change first.0 first.1) h one lower first.2, first.3)

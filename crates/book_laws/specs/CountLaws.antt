@@ -9,7 +9,8 @@ use Rattle.sched_plain.specs.Changes.{changes_of}
 use Rattle.sched_plain.specs.Rows.{rows_of}
 use Rattle.sched_plain.specs.Ledger.{ledger_of}
 use Rattle.sched_plain.specs.Entries.{entries}
-use Rattle.sched_plain.specs.Report.{counts}
+use Rattle.sched_plain.specs.Base.{sum_of_folded}
+use Rattle.sched_plain.specs.Report.{folded, counts}
 
 -- the sum of the nine numbers by which entries are told apart
 abbrev pub sum_of_nine : Counts → ℕ
@@ -23,6 +24,6 @@ CountsAddUp = (h : History) (t : ℕ) → (counts h t).entries ≡ sum_of_nine (
 abbrev pub all_pairs : History → List Pair
 all_pairs h = flat_map (λ inc. entries (ledger_of h) inc) (numbers 1 (length (rows_of (changes_of h))))
 
--- the number of entries is that of the pairs of all incarnations
+-- the number of entries is that of the pairs of all incarnations, and of the entries that were folded away
 abbrev pub EntriesAreCounted : Type 0
-EntriesAreCounted = (h : History) (t : ℕ) → (counts h t).entries ≡ length (all_pairs h)
+EntriesAreCounted = (h : History) (t : ℕ) → (counts h t).entries ≡ length (all_pairs h) + sum_of_folded (folded h)

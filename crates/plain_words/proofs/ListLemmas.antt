@@ -85,3 +85,8 @@ filter_none test (x ∷ xs) h = rw (h x) (filter_none test xs h)
 pub some_pass_none : {A : Type 0} (o : Option A) → some_pass (λ (x : A). false) o ≡ false
 some_pass_none None = refl
 some_pass_none (Some x) = refl
+
+-- a filter by what holds of each keeps all
+pub filter_every : {A : Type 0} (p : A → Bool) (xs : List A) → ((x : A) → p x ≡ true) → filter p xs ≡ xs
+filter_every p [] holds = refl
+filter_every p (x ∷ xs) holds = let here : p x ≡ true = holds x in rw here (ap (λ ys. x ∷ ys) (filter_every p xs holds))

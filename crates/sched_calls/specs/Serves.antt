@@ -16,7 +16,7 @@ use Rattle.plain_words.specs.declared.verdict.Verdict.{Verdict}
 use Rattle.sched_plain.specs.declared.why.RowFault.{RowFault}
 use Rattle.sched_plain.specs.declared.work.Work.TheVariants as works
 use Rattle.sched_plain.specs.declared.write.Write.{Write}
-use Rattle.sched_plain.specs.History.{History, beginning, ◌upon◌, Extends}
+use Rattle.sched_plain.specs.History.{History, beginning, based, ◌upon◌, Extends}
 use Rattle.plain_words.specs.Ids.{shard_of}
 use Rattle.plain_words.specs.Moments.{moment_of}
 use Rattle.plain_words.specs.Lists.{head, some_pass}
@@ -253,15 +253,17 @@ abbrev pub words_of : (ℕ → ℕ) → List Pair → ℕ
 words_of window [] = 0
 words_of window (pair ∷ pairs) = if window pair.instant == 0 then words_of window pairs else words_of window pairs + 1
 
--- how many words the Enters of a history drew
+-- how many words the Enters of a history drew: those that stand in it
 abbrev pub words_in : History → ℕ
 words_in beginning = 0
+words_in (based b kept) = words_in kept
 words_in (steps.Enter at inc pairs upon h) = words_in h + words_of (windows_of h inc) pairs
 words_in (s upon h) = words_in h
 
--- how many attempts of a history have their End
+-- how many attempts of a history have their End: those that stand in it
 abbrev pub ends_in : History → ℕ
 ends_in beginning = 0
+ends_in (based b kept) = ends_in kept
 ends_in (steps.End at inc instant number verdict status upon h) = ends_in h + 1
 ends_in (s upon h) = ends_in h
 

@@ -7,6 +7,7 @@ use Rattle.plain_words.specs.Moments.{last_moment}
 use Rattle.sched_plain.specs.Items.{items}
 use Rattle.sched_plain.specs.Examples.{first_day, finished}
 use Rattle.sched_plain.specs.Occurrences.{occ_below, has_later, occurs_in}
+use Rattle.sched_plain.specs.BaseRows.{FoldedHours, FoldedLetter}
 use Rattle.sched_plain.specs.ExampleRows.{SweepsAreLegal, BrokenSteps, Finishing, Standings, LettersAndMarks, Occurring, Reported, Attempting}
 
 pub sweeps_are_legal : SweepsAreLegal
@@ -134,3 +135,45 @@ reported = record { after_sweep = refl; in_sweep = refl; swept = refl; not_swept
 
 pub attempting : Attempting
 attempting = record { ended = refl; lost = refl; taken = refl; renewed = refl }
+
+pub folded_hours_read : FoldedHours
+unfolding occ_below
+folded_hours_read =
+    record {
+      size = refl;
+      one_more = refl;
+      moment = refl;
+      kept_step = refl;
+      folded_step = refl;
+      step_upon = refl;
+      kept_below = refl;
+      firsts = refl;
+      content = refl;
+      revisions = refl;
+      entered = refl;
+      lost = refl;
+      used_up = refl;
+      above_floor = refl;
+      mark_entered = refl;
+      taker = refl;
+      never_taken = refl;
+      taken = refl;
+      unswept = refl;
+      token = refl;
+      no_token = refl;
+      counted = refl;
+    }
+
+pub folded_letter_read : FoldedLetter
+unfolding occ_below
+folded_letter_read =
+    record {
+      size = refl;
+      begun = refl;
+      group = refl;
+      letter = refl;
+      mark_floor = refl;
+      unfloored = refl;
+      above_floor = refl;
+      counted = refl;
+    }

@@ -11,8 +11,8 @@ use Rattle.plain_words.specs.Lists.{or_else, only_if}
 use Rattle.sched_plain.specs.declared.standing.Standing.{Standing}
 use Rattle.sched_plain.specs.declared.standing.Standing.TheVariants as standings
 use Rattle.sched_plain.specs.Rules.{unless_due}
-use Rattle.sched_plain.specs.Ledger.{LedgerCall, Entered, Begun, Finished, Closed, Cancelled, Lost}
-use Rattle.sched_plain.specs.Entries.{entries, is_paired, decided_as, with_begin, with_end, outcome_of, with_loss, changed_if, is_lost_in, filed_by, filed}
+use Rattle.sched_plain.specs.Ledger.{LedgerCall, Entered, Begun, Finished, Closed, Cancelled, Lost, Missed}
+use Rattle.sched_plain.specs.Entries.{entries, is_paired, decided_as, with_begin, with_end, outcome_of, with_loss, with_missed, changed_if, is_lost_in, filed_by, filed}
 
 pub filed_changed : (b : Bool) (change : Entry → Entry) (f : Option Filed) → is_some (changed_if b change f) ≡ is_some f
 filed_changed true change None = refl
@@ -58,6 +58,8 @@ filed_paired (Cancelled of ∷ before) inc i =
     filed_changed (inc == of) (decided_as outcomes.Cancelled) (filed before inc i) ∙ filed_paired before inc i
 filed_paired (Lost shard moment ∷ before) inc i =
     filed_changed (is_lost_in shard inc) (with_loss moment) (filed before inc i) ∙ filed_paired before inc i
+filed_paired (Missed of at number moment ∷ before) inc i =
+    filed_changed (inc == of && i == at) (with_missed number moment) (filed before inc i) ∙ filed_paired before inc i
 
 -- other calls of the ledger add no pairs
 pub entries_cancelled : (incs : List ℕ) (before : List LedgerCall) (inc : ℕ) → entries (map Cancelled incs ++ before) inc ≡ entries before inc

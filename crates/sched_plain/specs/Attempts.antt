@@ -10,7 +10,7 @@ use Rattle.sched_plain.specs.declared.entry.Last.TheVariants as lasts
 use Rattle.plain_words.specs.declared.verdict.Verdict.{Verdict}
 use Rattle.plain_words.specs.Moments.{moment_of}
 use Rattle.plain_words.specs.Lists.{some_pass}
-use Rattle.sched_plain.specs.Ledger.{LedgerCall, Begun, Finished, Lost}
+use Rattle.sched_plain.specs.Ledger.{LedgerCall, Begun, Finished, Lost, Missed}
 use Rattle.sched_plain.specs.Entries.{is_lost_in}
 
 -- an attempt that was begun
@@ -30,6 +30,10 @@ lost_fate fate = fate
 abbrev pub lose_attempt : Attempt → Attempt
 lose_attempt attempt = record attempt { fate = lost_fate attempt.fate }
 
+-- the attempt of this number as a lost one, where it is live
+abbrev pub miss_attempt : ℕ → Attempt → Attempt
+miss_attempt number attempt = if number == attempt.number then lose_attempt attempt else attempt
+
 -- the attempts of an occurrence, in order
 abbrev pub attempts : List LedgerCall → ℕ → ℕ → List Attempt
 attempts [] inc instant = []
@@ -39,6 +43,8 @@ attempts (Finished of at number verdict status moment ∷ before) inc instant =
     if inc == of && instant == at then map (end_attempt number verdict status) (attempts before inc instant) else attempts before inc instant
 attempts (Lost shard moment ∷ before) inc instant =
     if is_lost_in shard inc then map lose_attempt (attempts before inc instant) else attempts before inc instant
+attempts (Missed of at number moment ∷ before) inc instant =
+    if inc == of && instant == at then map (miss_attempt number) (attempts before inc instant) else attempts before inc instant
 attempts (call ∷ before) inc instant = attempts before inc instant
 
 -- how many attempts of an occurrence were begun

@@ -16,7 +16,7 @@ use Rattle.plain_words.specs.declared.verdict.Verdict.{Verdict}
 use Rattle.plain_words.specs.declared.verdict.Verdict.TheVariants as verdicts
 use Rattle.plain_words.specs.Ids.{shard_of}
 use Rattle.plain_words.specs.Lists.{last, some_pass, or_else}
-use Rattle.sched_plain.specs.Ledger.{LedgerCall, Entered, Begun, Finished, Closed, Cancelled, Lost}
+use Rattle.sched_plain.specs.Ledger.{LedgerCall, Entered, Begun, Finished, Closed, Cancelled, Lost, Missed}
 
 -- the pairs of an incarnation, in the order in which they were entered
 abbrev pub entries : List LedgerCall → ℕ → List Pair
@@ -64,6 +64,10 @@ lost_last at last = last
 abbrev pub with_loss : ℕ → Entry → Entry
 with_loss at entry = record entry { last = lost_last at entry.last }
 
+-- the entry after the loss of its attempt of this number, where that is its last one and live
+abbrev pub with_missed : ℕ → ℕ → Entry → Entry
+with_missed number at entry = if number == entry.used then with_loss at entry else entry
+
 -- what is filed, with its entry changed
 abbrev pub on_entry : (Entry → Entry) → Filed → Filed
 on_entry change filed = record filed { entry = change filed.entry }
@@ -98,6 +102,8 @@ filed (Cancelled of ∷ before) inc instant =
     changed_if (inc == of) (decided_as outcomes.Cancelled) (filed before inc instant)
 filed (Lost shard moment ∷ before) inc instant =
     changed_if (is_lost_in shard inc) (with_loss moment) (filed before inc instant)
+filed (Missed of at number moment ∷ before) inc instant =
+    changed_if (inc == of && instant == at) (with_missed number moment) (filed before inc instant)
 
 -- the entry is not decided
 abbrev pub is_open : Option Filed → Bool

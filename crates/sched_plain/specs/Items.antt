@@ -8,7 +8,7 @@ use Rattle.sched_plain.specs.declared.write.Write.{Write}
 use Rattle.sched_plain.specs.declared.write.Write.TheVariants as writes
 use Rattle.sched_plain.specs.declared.row.Row.{Row}
 use Rattle.sched_plain.specs.declared.step.Step.TheVariants as steps
-use Rattle.sched_plain.specs.History.{History, beginning, ◌upon◌}
+use Rattle.sched_plain.specs.History.{History, beginning, based, ◌upon◌}
 use Rattle.plain_words.specs.Moments.{last_moment}
 use Rattle.plain_words.specs.Lists.{nth, some_pass}
 use Rattle.sched_plain.specs.Changes.{changes_of}
@@ -78,6 +78,7 @@ items_zoned known at name bytes (Some row) items =
 -- the items of an incarnation, in the order of their spans
 abbrev pub items : History → ℕ → List Item
 items beginning inc = []
+items (based b kept) inc = items kept inc
 items (steps.Change at write upon h) inc = let rows = rows_of (changes_of h) in
     if inc == length rows + 1 then items_born h at.0 write else items_written h at.0 write (nth rows inc) (items h inc)
 items (steps.Complete at removed upon h) inc = if inc == removed then map (cut_item at.0) (items h inc) else items h inc

@@ -3,7 +3,8 @@
 use Rattle.std.specs.Prelude.{ℕ, ◌+◌, ◌==◌, nat_lt, Bool, not, ◌&&◌, if◌then◌else◌}
 use Rattle.sched_plain.specs.declared.holder.Holder.{Holder}
 use Rattle.sched_plain.specs.declared.step.Step.TheVariants as steps
-use Rattle.sched_plain.specs.History.{History, beginning, ◌upon◌}
+use Rattle.sched_plain.specs.Base.{of_the_shard}
+use Rattle.sched_plain.specs.History.{History, beginning, based, ◌upon◌}
 
 -- a shard that was never taken
 abbrev pub untaken : Holder
@@ -22,9 +23,11 @@ abbrev pub leased : Holder → ℕ → ℕ → ℕ → Holder
 leased held worker epoch until =
     record { worker = if is_taking held epoch then worker else held.worker; epoch = epoch; until = until }
 
--- who last took a shard, its epoch, and until when it is held: 0 where it is free
+-- who last took a shard, its epoch, and until when it is held: 0 where it is free. A base frees all shards, as a
+-- Boot does
 abbrev pub holder : History → ℕ → Holder
 holder beginning shard = untaken
+holder (based b kept) shard = record { worker = of_the_shard b.takers shard; epoch = of_the_shard b.epochs shard; until = 0 }
 holder (steps.Boot at upon h) shard = freed (holder h shard)
 holder (steps.Lease at of worker epoch until upon h) shard =
     if shard == of then leased (holder h shard) worker epoch until else holder h shard

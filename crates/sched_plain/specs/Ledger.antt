@@ -8,14 +8,16 @@ use Rattle.sched_plain.specs.declared.outcome.Reason.{Reason}
 use Rattle.plain_words.specs.declared.verdict.Verdict.{Verdict}
 use Rattle.sched_plain.specs.declared.row.Row.{Row}
 use Rattle.sched_plain.specs.declared.write.Write.{Write}
-use Rattle.sched_plain.specs.History.{History, beginning, ◌upon◌}
+use Rattle.sched_plain.specs.Base.{Loss}
+use Rattle.sched_plain.specs.History.{History, beginning, based, ◌upon◌}
 use Rattle.plain_words.specs.Lists.{head, only_if}
 use Rattle.sched_plain.specs.Changes.{changes_of}
 use Rattle.sched_plain.specs.Rows.{Deed, Nothing, Renews, Ends, deed_of, rows_of, incs_where, content_at}
 use Rattle.sched_plain.specs.Leases.{holder, is_taking}
 
 -- one call: entries of an incarnation with their policy; an attempt's begin and its end; a close; all open
--- entries of an incarnation cancelled; all live attempts of a shard, or of all, lost
+-- entries of an incarnation cancelled; all live attempts of a shard, or of all, lost; one attempt that was lost in
+-- the folded part
 pub data LedgerCall : Type 0 where
   Entered : ℕ → Policy → List Pair → LedgerCall
   Begun : ℕ → ℕ → ℕ → ℕ → ℕ → LedgerCall
@@ -23,6 +25,7 @@ pub data LedgerCall : Type 0 where
   Closed : ℕ → ℕ → Reason → LedgerCall
   Cancelled : ℕ → LedgerCall
   Lost : Option ℕ → ℕ → LedgerCall
+  Missed : ℕ → ℕ → ℕ → ℕ → LedgerCall
 
 -- the policy of the content that covers the first of these pairs; that of no entry where there is none
 abbrev pub no_policy : Policy
@@ -46,9 +49,14 @@ is_end Ends = true
 abbrev pub ended_by : List Row → Write → List ℕ
 ended_by rows write = incs_where (λ row. is_end (deed_of write row)) rows
 
--- the ledger's calls of a history
+-- the call of a loss in the folded part
+abbrev pub missed_by : Loss → LedgerCall
+missed_by loss = Missed loss.inc loss.instant loss.number loss.at
+
+-- the ledger's calls of a history; the losses of a base are newer than all that it keeps
 abbrev pub ledger_of : History → List LedgerCall
 ledger_of beginning = []
+ledger_of (based b kept) = map missed_by b.losses ++ ledger_of kept
 ledger_of (steps.Boot at upon h) = Lost None at.0 ∷ ledger_of h
 ledger_of (steps.Change at write upon h) = map Cancelled (ended_by (rows_of (changes_of h)) write) ++ ledger_of h
 ledger_of (steps.Enter at inc pairs upon h) = Entered inc (policy_of (rows_of (changes_of h)) inc pairs) pairs ∷ ledger_of h

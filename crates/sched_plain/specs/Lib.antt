@@ -6,6 +6,7 @@ pub use Rattle.expressions.specs.CivilSeconds
 pub use Rattle.expressions.specs.Spelling
 pub use Rattle.expressions.specs.Calendar
 pub mod Contents
+pub mod Base
 pub mod History
 pub mod Moments
 pub mod Validity
@@ -30,3 +31,4 @@ pub mod Legal
 pub mod Report
 pub mod Examples
 pub mod ExampleRows
+pub mod BaseRows

@@ -3,7 +3,7 @@ use Rattle.std.specs.Prelude.{ℕ}
 pub use Rattle.plain_words.specs.Moments.{last_moment, moment_of}
 use Rattle.sched_plain.specs.declared.step.Step.{Step}
 use Rattle.sched_plain.specs.declared.step.Step.TheVariants as steps
-use Rattle.sched_plain.specs.History.{History, beginning, ◌upon◌}
+use Rattle.sched_plain.specs.History.{History, beginning, based, ◌upon◌}
 
 -- the moment that a step carries
 abbrev pub at_of : Step → ℕ
@@ -19,7 +19,8 @@ at_of (steps.Close at inc instant reason) = at.0
 at_of (steps.Complete at inc) = at.0
 at_of (steps.Swept at shard) = at.0
 
--- the moment of a history: that of its last step, 0 where it has none
+-- the moment of a history: that of its last step, or of its base, 0 where it has none
 abbrev pub moment : History → ℕ
 moment beginning = 0
+moment (based b kept) = b.at
 moment (s upon h) = at_of s

@@ -10,7 +10,7 @@ use Rattle.sched_plain.specs.declared.outcome.Outcome.{Outcome}
 use Rattle.sched_plain.specs.declared.outcome.Outcome.TheVariants as outcomes
 use Rattle.plain_words.specs.declared.verdict.Verdict.{Verdict}
 use Rattle.plain_words.specs.declared.verdict.Verdict.TheVariants as verdicts
-use Rattle.sched_plain.specs.History.{History, beginning, ◌upon◌}
+use Rattle.sched_plain.specs.History.{History, beginning, based, ◌upon◌}
 use Rattle.sched_plain.specs.Changes.{changes_of}
 use Rattle.sched_plain.specs.Rows.{same_text, rows_of, content_at}
 use Rattle.sched_plain.specs.Ledger.{ledger_of}
@@ -39,6 +39,7 @@ final_letter verdict queue inc instant = []
 -- all letters of a history, in order
 abbrev pub posted : History → List Posted
 posted beginning = []
+posted (based b kept) = posted kept
 posted (steps.End at inc instant number verdict status upon h) = posted h ++
     (if is_open (filed (ledger_of h) inc instant)
     then final_letter verdict (queue_of (content_at (rows_of (changes_of h)) inc instant)) inc instant else [])
@@ -46,6 +47,10 @@ posted (steps.Close at inc instant reason upon h) =
     posted h ++ letter_in (queue_of (content_at (rows_of (changes_of h)) inc instant)) inc instant (outcome_of reason)
 posted (s upon h) = posted h
 
+-- those of these letters that lie in a queue, in order
+abbrev pub letters_of : List Posted → List ℕ → List Letter
+letters_of all queue = map (λ p. p.letter) (filter (λ p. same_text queue p.queue) all)
+
 -- the letters of a queue, in order
 abbrev pub letters : History → List ℕ → List Letter
-letters h queue = map (λ p. p.letter) (filter (λ p. same_text queue p.queue) (posted h))
+letters h queue = letters_of (posted h) queue

@@ -9,7 +9,8 @@ use Rattle.sched_plain.specs.declared.step.Pair.{Pair}
 use Rattle.sched_plain.specs.declared.step.Step.TheVariants as steps
 use Rattle.sched_plain.specs.declared.outcome.Outcome.TheVariants as outcomes
 use Rattle.plain_words.specs.declared.moment.Moment.{Moment}
-use Rattle.sched_plain.specs.History.{History, beginning, ◌upon◌, count}
+use Rattle.sched_plain.specs.Base.{Folded, none_folded, sum_of_folded}
+use Rattle.sched_plain.specs.History.{History, beginning, based, ◌upon◌, count}
 use Rattle.plain_words.specs.Lists.{numbers}
 use Rattle.sched_plain.specs.Changes.{changes_of}
 use Rattle.sched_plain.specs.Rows.{rows_of}
@@ -74,7 +75,13 @@ abbrev pub is_exhausted : Standing → Bool
 is_exhausted (standings.Exhausted reason) = true
 is_exhausted standing = false
 
--- the counts of a history at a moment
+-- how many entries were folded away before a history, by their outcome
+abbrev pub folded : History → Folded
+folded beginning = none_folded
+folded (based b kept) = b.folded
+folded (s upon h) = folded h
+
+-- the counts of a history at a moment, with those that were folded away
 abbrev pub counts : History → ℕ → Counts
 counts h t = let rows = rows_of (changes_of h) in let all = all_standings (ledger_of h) (length rows) t in
     record {
@@ -82,12 +89,12 @@ counts h t = let rows = rows_of (changes_of h) in let all = all_standings (ledge
       steps = count h;
       schedules = living_count rows;
       groups = length (groups_of (changes_of h));
-      entries = length all;
-      done = number_of is_done all;
-      finals = number_of is_final all;
-      attempts = number_of is_closed_by_attempts all;
-      age = number_of is_closed_by_age all;
-      cancelled = number_of is_cancelled all;
+      entries = length all + sum_of_folded (folded h);
+      done = number_of is_done all + (folded h).done;
+      finals = number_of is_final all + (folded h).finals;
+      attempts = number_of is_closed_by_attempts all + (folded h).attempts;
+      age = number_of is_closed_by_age all + (folded h).age;
+      cancelled = number_of is_cancelled all + (folded h).cancelled;
       waiting = number_of is_waiting all;
       due = number_of is_due all;
       live = number_of is_live all;
@@ -95,9 +102,10 @@ counts h t = let rows = rows_of (changes_of h) in let all = all_standings (ledge
       letters = length (posted h);
     }
 
--- the moment of the last Swept of a shard since the last Boot
+-- the moment of the last Swept of a shard since the last Boot; a base is one
 abbrev pub last_swept : History → ℕ → Option Moment
 last_swept beginning shard = None
+last_swept (based b kept) shard = None
 last_swept (steps.Boot at upon h) shard = None
 last_swept (steps.Swept at of upon h) shard = if shard == of then Some at else last_swept h shard
 last_swept (s upon h) shard = last_swept h shard

@@ -1,11 +1,12 @@
 -- The client tokens that accepted writes kept, the first of them first.
-use Rattle.std.specs.Prelude.{ℕ, ◌+◌, Option, Some, None, List, [], ◌∷◌, ◌++◌}
+use Rattle.std.specs.Prelude.{ℕ, ◌+◌, Option, Some, None, List, [], ◌∷◌, ◌++◌, map}
 use Rattle.std.specs.List.{find}
 use Rattle.std.specs.Option.{option_map}
 use Rattle.sched_plain.specs.declared.write.Write.{Write}
 use Rattle.sched_plain.specs.declared.write.Write.TheVariants as writes
 use Rattle.sched_plain.specs.declared.step.Step.TheVariants as steps
-use Rattle.sched_plain.specs.History.{History, beginning, ◌upon◌, count}
+use Rattle.sched_plain.specs.Base.{place_of}
+use Rattle.sched_plain.specs.History.{History, beginning, based, ◌upon◌, count}
 use Rattle.sched_plain.specs.Rows.{same_text}
 
 -- a token, the write that kept it, and the place of its step
@@ -27,9 +28,14 @@ abbrev pub kept_by : Option (List ℕ) → Write → ℕ → List Kept
 kept_by None write place = []
 kept_by (Some token) write place = record { token = token; write = write; place = place } ∷ []
 
+-- the same with the place that the step of a base had
+abbrev pub placed_at : List ℕ → Kept → Kept
+placed_at places kept = record kept { place = place_of places kept.place }
+
 -- what the writes of a history kept
 abbrev pub kept_of : History → List Kept
 kept_of beginning = []
+kept_of (based b kept) = map (placed_at b.places) (kept_of kept)
 kept_of (steps.Change at write upon h) = kept_of h ++ kept_by (token_of write) write (count h + 1)
 kept_of (s upon h) = kept_of h
 

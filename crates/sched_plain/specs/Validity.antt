@@ -9,7 +9,7 @@ use Rattle.sched_plain.specs.declared.step.Pair.{Pair}
 use Rattle.sched_plain.specs.declared.step.Step.{Step}
 use Rattle.sched_plain.specs.declared.step.Step.TheVariants as steps
 use Rattle.plain_words.specs.Words.{name_fault, token_fault, zone_name_fault}
-use Rattle.sched_plain.specs.History.{History, beginning, ◌upon◌}
+use Rattle.sched_plain.specs.History.{History, beginning, based, ◌upon◌}
 use Rattle.plain_words.specs.Moments.{last_moment}
 use Rattle.expressions.specs.Spelling.{Spells}
 use Rattle.plain_words.specs.declared.limits.TheConstants.{LONGEST_DESCRIPTION, LONGEST_EXPRESSION, LONGEST_ARN, LONGEST_INPUT, LONGEST_WINDOW, LONGEST_ZONE, MOST_RETRIES, LEAST_AGE, LONGEST_AGE, MOST_PAIRS, SHARDS, LEASE_SECONDS}
@@ -108,7 +108,8 @@ IsValid (steps.Close at inc instant reason) = IsMoment at.0 × IsIncarnation inc
 IsValid (steps.Complete at inc) = IsMoment at.0 × IsIncarnation inc
 IsValid (steps.Swept at shard) = IsMoment at.0 × IsShard shard
 
--- each step of the history is valid
+-- each step of the history that is there is valid
 abbrev pub AllValid : History → Type 0
 AllValid beginning = Unit {0}
+AllValid (based b kept) = AllValid kept
 AllValid (s upon h) = AllValid h × IsValid s

@@ -5,7 +5,7 @@ use Rattle.std.specs.Option.{option_map}
 use Rattle.std.proofs.lemmas.List.{length_push}
 use Rattle.std.proofs.lemmas.Grind.{flat_map-append}
 use Rattle.sched_plain.specs.declared.step.Step.TheVariants as steps
-use Rattle.sched_plain.specs.History.{History, beginning, ◌upon◌, Extends, as_it_was, count}
+use Rattle.sched_plain.specs.History.{History, beginning, based, ◌upon◌, Extends, as_it_was, count}
 use Rattle.sched_plain.specs.Validity.{AllValid}
 use Rattle.sched_plain.proofs.HistoryLemmas.{extends_through}
 use Rattle.sched_plain.specs.Legal.{IsLegal}
@@ -15,6 +15,7 @@ use Rattle.book_laws.proofs.SweptLeaves.{swept_leaves_nothing}
 use Rattle.book_laws.proofs.BeginsDiffer.{numbers_count, attempts_allowed}
 use Rattle.book_core.specs.InUse.{calendar}
 use Rattle.book_core.specs.Form.{IsSound}
+use Rattle.book_core.proofs.BirthLemmas.{sound_first, no_floor}
 use Rattle.target_link.specs.declared.link.Sent.{Sent}
 use Rattle.http_wire.specs.declared.request.HttpRequest.{HttpRequest}
 use Rattle.http_wire.specs.Devices.{Gives, Gets, GetsPart}
@@ -40,10 +41,12 @@ Served-push before middle after now at at' (y ∷ more) x (between, told, framed
 -- each step of a sound history may follow, and is valid
 pub sound_legal : (h : History) → IsSound h → IsLegal calendar h
 sound_legal beginning p = tt
+sound_legal (based b kept) p = absurd p
 sound_legal (s upon h) p = (sound_legal h p.0, p.1.follows)
 
 pub sound_valid : (h : History) → IsSound h → AllValid h
 sound_valid beginning p = tt
+sound_valid (based b kept) p = absurd p
 sound_valid (s upon h) p = (sound_valid h p.0, p.1.valid)
 
 -- what was told grows by one list and then by another
@@ -61,7 +64,7 @@ handed_more h after told mid told' handed sends = record {
 -- what holds of every legal history
 kept_of : (h : History) → IsSound h → (inc : ℕ) → IsKept h inc
 kept_of h sound inc = let legal = sound_legal h sound in record {
-  exact = entries_exact calendar h legal inc;
+  exact = entries_exact calendar h legal inc (no_floor h inc (sound_first h sound));
   once = entries_rise calendar h legal inc;
   numbered = λ instant. numbers_count calendar h legal inc instant;
   limited = λ instant. attempts_allowed calendar h legal inc instant;

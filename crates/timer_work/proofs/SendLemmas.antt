@@ -8,7 +8,7 @@ use Rattle.sched_plain.specs.declared.step.Step.TheVariants as steps
 use Rattle.plain_words.specs.declared.verdict.Verdict.{Verdict}
 use Rattle.plain_words.specs.Lists.{nth}
 use Rattle.plain_words.proofs.ListLemmas.{nth_more, nth_snoc}
-use Rattle.sched_plain.specs.History.{History, beginning, ◌upon◌}
+use Rattle.sched_plain.specs.History.{History, beginning, based, ◌upon◌}
 use Rattle.target_link.specs.declared.link.Sent.{Sent}
 use Rattle.timer_work.specs.Sendings.{Request, Reported, AttemptSent, EndsAs, EndsHeard, request_for, requests_of, request_sent, sent_for}
 use Rattle.timer_work.specs.Sweeping.{Sends}
@@ -48,6 +48,7 @@ either_more false one other one' other' x f g e = g e
 sent_more : (h : History) (before more : List Sent) (inc instant number : ℕ) (one : Sent)
     → sent_for h before inc instant number ≡ Some one → sent_for h (before ++ more) inc instant number ≡ Some one
 sent_more beginning before more inc instant number one e = cc e
+sent_more (based b kept) before more inc instant number one e = sent_more kept before more inc instant number one e
 sent_more (steps.Boot at upon h) before more inc instant number one e = sent_more h before more inc instant number one e
 sent_more (steps.Zone at name bytes upon h) before more inc instant number one e = sent_more h before more inc instant number one e
 sent_more (steps.Change at write upon h) before more inc instant number one e = sent_more h before more inc instant number one e
@@ -70,6 +71,7 @@ ends_more (Some request) (Some one) o' verdict status f p = subst (λ (x : Optio
 
 heard_more : (h : History) (before more : List Sent) → EndsHeard h before → EndsHeard h (before ++ more)
 heard_more beginning before more p = tt
+heard_more (based b kept) before more p = heard_more kept before more p
 heard_more (steps.Boot at upon h) before more p = heard_more h before more p
 heard_more (steps.Zone at name bytes upon h) before more p = heard_more h before more p
 heard_more (steps.Change at write upon h) before more p = heard_more h before more p

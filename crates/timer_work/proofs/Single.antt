@@ -14,7 +14,7 @@ use Rattle.sched_plain.specs.declared.work.Work.{Work}
 use Rattle.sched_plain.specs.declared.work.Work.TheVariants as works
 use Rattle.sched_plain.specs.declared.why.Why.TheVariants as whys
 use Rattle.sched_plain.specs.declared.write.Write.TheVariants as writes
-use Rattle.sched_plain.specs.History.{History, beginning, ◌upon◌}
+use Rattle.sched_plain.specs.History.{History, beginning, based, ◌upon◌}
 use Rattle.plain_words.specs.Ids.{shard_of}
 use Rattle.sched_plain.specs.Moments.{moment}
 use Rattle.plain_words.specs.Moments.{last_moment}
@@ -113,6 +113,7 @@ past_birth all inc e = let is : inc ≡ length all + 1 = eqb-true inc (length al
 -- what an incarnation has entered is its one occurrence
 pub one_entry : (h : History) (inc : ℕ) → IsSound h → OneEntry (entries (ledger_of h) inc) (occurrence_at (nth (births h) inc))
 one_entry beginning inc p = tt
+one_entry (based b kept) inc p = absurd p
 one_entry (steps.Boot at upon h) inc p = one_entry h inc p.0
 one_entry (steps.Zone at name bytes upon h) inc p = cc p.1.form
 one_entry (steps.Change at (writes.CreateSchedule group name token content) upon h) inc p =

@@ -6,7 +6,7 @@ use Rattle.sched_plain.specs.declared.schedule.Schedule.{Schedule}
 use Rattle.sched_plain.specs.declared.step.Step.TheVariants as steps
 use Rattle.plain_words.specs.declared.verdict.Verdict.{Verdict}
 use Rattle.plain_words.specs.declared.verdict.Verdict.TheVariants as verdicts
-use Rattle.sched_plain.specs.History.{History, beginning, ◌upon◌}
+use Rattle.sched_plain.specs.History.{History, beginning, based, ◌upon◌}
 use Rattle.plain_words.specs.Lists.{nth}
 use Rattle.sched_plain.specs.Changes.{changes_of}
 use Rattle.sched_plain.specs.Rows.{rows_of, content_at}
@@ -51,9 +51,10 @@ request_by facts = record { to = facts.spot.address; text = request_text facts; 
 abbrev pub request_for : History → ℕ → ℕ → ℕ → Option Request
 request_for h inc instant number = option_map request_by (facts_of h inc instant number)
 
--- the requests of the attempts that were begun, in order
+-- the requests of the attempts that were begun and stand in the history, in order
 abbrev pub requests_of : History → List Request
 requests_of beginning = []
+requests_of (based b kept) = requests_of kept
 requests_of (steps.Begin at inc instant number epoch upon h) = requests_of h ++ option_to_list (request_for h inc instant number)
 requests_of (s upon h) = requests_of h
 
@@ -64,6 +65,7 @@ request_sent one = record { to = one.to; text = one.request; room = one.room }
 -- what was sent for an attempt that has a request: it stands at the place of that request
 abbrev pub sent_for : History → List Sent → ℕ → ℕ → ℕ → Option Sent
 sent_for beginning sent inc instant number = None
+sent_for (based b kept) sent inc instant number = sent_for kept sent inc instant number
 sent_for (steps.Begin at of i n epoch upon h) sent inc instant number =
     if inc == of && instant == i && number == n then nth sent (length (requests_of h) + 1) else sent_for h sent inc instant number
 sent_for (s upon h) sent inc instant number = sent_for h sent inc instant number
@@ -82,6 +84,7 @@ EndsAs (Some request) (Some one) verdict status = (request_sent one ≡ request)
 -- each attempt of a history that ended did so as what came back for it says
 abbrev pub EndsHeard : History → List Sent → Type 0
 EndsHeard beginning sent = Unit {0}
+EndsHeard (based b kept) sent = EndsHeard kept sent
 EndsHeard (steps.End at inc instant number verdict status upon h) sent =
     EndsHeard h sent × EndsAs (request_for h inc instant number) (sent_for h sent inc instant number) verdict status
 EndsHeard (s upon h) sent = EndsHeard h sent

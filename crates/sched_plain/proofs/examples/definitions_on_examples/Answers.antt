@@ -1,4 +1,4 @@
-use Rattle.sched_plain.proofs.Histories.{sweeps_are_legal, broken_steps, finishing, standings, letters_and_marks, occurring, reported, attempting}
+use Rattle.sched_plain.proofs.Histories.{sweeps_are_legal, broken_steps, finishing, standings, letters_and_marks, occurring, reported, attempting, folded_hours_read, folded_letter_read}
 use Rattle.sched_plain.proofs.examples.definitions_on_examples.Goals as goal
 
 pub returns-clause-sweeps : goal.returns-clause-sweeps
@@ -24,3 +24,9 @@ returns-clause-attempts c = attempting
 
 pub returns-clause-finishing : goal.returns-clause-finishing
 returns-clause-finishing c = finishing
+
+pub returns-clause-folded : goal.returns-clause-folded
+returns-clause-folded c = folded_hours_read
+
+pub returns-clause-kept : goal.returns-clause-kept
+returns-clause-kept c = folded_letter_read

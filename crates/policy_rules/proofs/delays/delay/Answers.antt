@@ -1,6 +1,6 @@
 use Rattle.std.proofs.Common.{◌-◌, ◌^◌, ◌≤◌, arith}
 use Rattle.std.proofs.Math.Nat.{pow-le-pow_right}
-use Rattle.book_core.proofs.standing.delay.Goals as goal
+use Rattle.policy_rules.proofs.delays.delay.Goals as goal
 
 pub returns-then-number-gt-LAST_DOUBLED-clause-value : goal.returns-then-number-gt-LAST_DOUBLED-clause-value
 returns-then-number-gt-LAST_DOUBLED-clause-value c =

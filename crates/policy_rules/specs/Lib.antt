@@ -1,0 +1,4 @@
+pub mod LastAttempt
+pub mod Shards
+pub mod Given
+pub mod ExampleRows
