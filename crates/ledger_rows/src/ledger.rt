@@ -1,0 +1,539 @@
+//! The ledger as its callers see it.
+ghost use Rattle.std.specs.Prelude.{◌≡◌, ℕ, ◌+◌, ◌-◌, ◌≤◌, ◌<◌, true, Some, None, IfNone, IsSome, List, [], ◌∷◌, ◌++◌, map, length, vec_len, vec_capacity, IfSome, OnOk};
+ghost use Rattle.plain_words.specs.Lists.{some_pass, numbers};
+ghost use Rattle.std.specs.Option.{option_map};
+ghost use Rattle.sched_plain.specs.Ledger.{LedgerCall, Entered, Begun, Finished, Closed, Cancelled, Lost};
+ghost use Rattle.sched_plain.specs.Attempts.{begun_attempt, end_attempt, lose_attempt, is_live_attempt, is_live_last, attempts};
+ghost use Rattle.sched_plain.specs.Entries.{with_begin, with_end, with_loss, decided_as, outcome_of, is_lost_in, filed, undecided};
+ghost use Rattle.ledger_rows.specs.Rows.{LaneRows, room_at, row_at, open_in, IsEntrance, IsSmallRow};
+ghost use Rattle.ledger_rows.specs.Air.{but_for, is_of, outside, live_in, airborne};
+ghost use Rattle.ledger_rows.specs.State.{filed_in, pairs_in, attempts_in, lane_of, is_closable, ChangesIn, Tells, RowsAre, same_rows, rows_entered, rows_cancelled, rows_lost, lane_standings};
+ghost use Rattle.ledger_rows.specs.Wanting.{answers, IsFirstOf};
+ghost use Rattle.sched_plain.specs.Standing.{standing_of};
+ghost use Rattle.sched_plain.specs.Report.{is_due, number_of};
+ghost use Rattle.std.specs.List.{flat_map};
+ghost use Rattle.ledger_rows.specs.Counting.{is_kind, IsWithin, entry_counts, counted};
+
+use crate::counts::{EntryCounts, Kind};
+use crate::lane::{Lane, may_follow};
+use crate::question::Question;
+use crate::row::{Flight, Row};
+use policy_rules::standing;
+use sched_plain::{
+    Attempt, Entry, Filed, LAST_MOMENT, Last, Moment, Pair, Pairs, Policy, Reason, SHARDS,
+    Standing, Verdict, shard_of,
+};
+use std::alloc::{AllocError, Global};
+use std::marker::Model;
+
+/// The entries of all occurrences, with their policies and attempts.
+#[derive(Drop)]
+pub struct Ledger {
+    /// The entries of each incarnation, at its number.
+    lanes: Vec<Lane>,
+    /// The attempts in the air, in the order of their begins.
+    flights: Vec<Flight>,
+}
+
+impl Model for Ledger {
+    ghost use Rattle.std.specs.Prelude.{◌-◌, ◌≤◌, length, vec_len, vec_capacity};
+    ghost use Rattle.ledger_rows.specs.State.{State};
+
+    ghost Value = { State };
+
+    ghost view = { λ l. record { lanes = l.lanes.items; flights = l.flights.items; room = vec_capacity l.flights - vec_len l.flights } };
+
+    ghost invariant = { λ l. length l.lanes.items ≤ 4294967296 };
+}
+
+impl Ledger {
+    ghost use Rattle.ledger_rows.specs.State.{State, Stands, IsSame, HasBeginRoom, HasEnterRoom};
+
+    /// The ledger of no calls; it takes no memory.
+    pub fn new(alloc: Global) -> Ledger
+        ensures { Stands result [] }
+    {
+        Ledger {
+            lanes: Vec::new(alloc),
+            flights: Vec::new(alloc),
+        }
+    }
+
+    /// Makes room for so many more entries of an incarnation. Where memory is wanted the ledger is as before.
+    pub fn reserve_enter(&mut self, inc: u32, count: u16) -> Result<(), AllocError>
+        ensures same { IsSame self.old self.new }
+        ensures stands { (calls : List LedgerCall) → Stands self.old calls → Stands self.new calls }
+        ensures room { OnOk result (HasEnterRoom self.new inc count) }
+    {
+        reserve_in(&mut self.lanes, inc, count)
+    }
+
+    /// The occurrences of these pairs have entries with this policy. It uses up room for so many.
+    pub fn enter(&mut self, inc: u32, policy: Policy, pairs: &Pairs)
+        requires room { HasEnterRoom self.old inc (length pairs.now) }
+        requires entrance { IsEntrance (pairs_in self.old.lanes inc) pairs.now }
+        ensures { (calls : List LedgerCall) → Stands self.old calls → Stands self.new (Entered inc policy pairs.now ∷ calls) }
+    {
+        enter_in(&mut self.lanes, inc, policy, pairs.as_slice());
+    }
+
+    /// Makes room for one more attempt of an occurrence, and for its end. Where memory is wanted, or the occurrence has no
+    /// entry, the ledger is as before.
+    pub fn reserve_begin(&mut self, inc: u32, instant: u64) -> Result<(), AllocError>
+        ensures same { IsSame self.old self.new }
+        ensures stands { (calls : List LedgerCall) → Stands self.old calls → Stands self.new calls }
+        ensures room { OnOk result (HasBeginRoom self.new inc instant) }
+    {
+        self.flights.reserve(1)?;
+        room_in(&mut self.lanes, inc, instant)
+    }
+
+    /// The next attempt of an occurrence begins at a moment, with the epoch of the one who sends it; its number, from 1, is
+    /// answered. It uses up the room.
+    pub fn begin(&mut self, inc: u32, instant: u64, epoch: u64, at: Moment) -> u16
+        requires room { HasBeginRoom self.old inc instant }
+        requires due { some_pass (λ f. is_due (standing_of f at.0)) (filed_in self.old.lanes inc instant) ≡ true }
+        requires at { at.0 ≤ LAST_MOMENT }
+        ensures number { IfSome (filed_in self.old.lanes inc instant) (λ f. result ≡ f.entry.used + 1) }
+        ensures stands { (calls : List LedgerCall) → Stands self.old calls → Stands self.new (Begun inc instant result epoch at.0 ∷ calls) }
+    {
+        let number = begin_in(&mut self.lanes, inc, instant, epoch, at);
+        put_last(
+            &mut self.flights,
+            Flight {
+                inc,
+                instant,
+                number,
+            },
+        );
+        number
+    }
+
+    /// An attempt in the air ends with a verdict and a status, 0 where no reply could be read.
+    pub fn end(
+        &mut self,
+        inc: u32,
+        instant: u64,
+        number: u16,
+        verdict: Verdict,
+        status: u16,
+        at: Moment,
+    )
+        requires live { is_live_attempt (filed_in self.old.lanes inc instant) number ≡ true }
+        requires at { at.0 ≤ LAST_MOMENT }
+        ensures { (calls : List LedgerCall) → Stands self.old calls → Stands self.new (Finished inc instant number verdict status at.0 ∷ calls) }
+    {
+        end_in(&mut self.lanes, inc, instant, number, verdict, status, at);
+        land(&mut self.flights, inc, instant);
+    }
+
+    /// An entry that is open, and has no attempt in the air, is given up.
+    pub fn close(&mut self, inc: u32, instant: u64, reason: Reason)
+        requires { some_pass is_closable (filed_in self.old.lanes inc instant) ≡ true }
+        ensures { (calls : List LedgerCall) → Stands self.old calls → Stands self.new (Closed inc instant reason ∷ calls) }
+    {
+        close_in(&mut self.lanes, inc, instant, reason);
+    }
+
+    /// The entries of an incarnation that are not decided are cancelled; an attempt in the air stays there.
+    pub fn cancel(&mut self, inc: u32)
+        ensures { (calls : List LedgerCall) → Stands self.old calls → Stands self.new (Cancelled inc ∷ calls) }
+    {
+        cancel_in(&mut self.lanes, inc);
+    }
+
+    /// The attempts in the air are lost at a moment: those of a shard, or all where none is named.
+    pub fn lose(&mut self, shard: Option<u8>, at: Moment)
+        requires { at.0 ≤ LAST_MOMENT }
+        ensures { (calls : List LedgerCall) → Stands self.old calls → Stands self.new (Lost shard at.0 ∷ calls) }
+    {
+        lose_in(&mut self.lanes, shard, at);
+        drop_lost(&mut self.flights, shard);
+    }
+
+    /// What is filed for an occurrence: its entry, and the policy under which it was entered.
+    pub fn filed(&self, inc: u32, instant: u64) -> Option<Filed>
+        ensures seen { result ≡ filed_in self.now.lanes inc instant }
+        ensures stands { (calls : List LedgerCall) → Stands self.now calls → result ≡ filed calls inc instant }
+    {
+        match row_of(&self.lanes, inc, instant) {
+            Some(row) => Some(row.filed),
+            None => None,
+        }
+    }
+
+    /// Whether the next attempt of an occurrence may begin at a moment: its entry is due.
+    pub fn is_due(&self, inc: u32, instant: u64, at: Moment) -> bool
+        ensures { result ≡ some_pass (λ f. is_due (standing_of f at.0)) (filed_in self.now.lanes inc instant) }
+    {
+        match row_of(&self.lanes, inc, instant) {
+            Some(row) => is_due(row, at),
+            None => false,
+        }
+    }
+
+    /// Whether the attempt of this number of an occurrence is in the air.
+    pub fn is_live(&self, inc: u32, instant: u64, number: u16) -> bool
+        ensures { result ≡ is_live_attempt (filed_in self.now.lanes inc instant) number }
+    {
+        match row_of(&self.lanes, inc, instant) {
+            Some(row) => row.filed.entry.used == number && is_live(row.filed.entry.last),
+            None => false,
+        }
+    }
+
+    /// Whether an occurrence has an entry that may be given up: not decided, and with no attempt in the air.
+    pub fn is_closable(&self, inc: u32, instant: u64) -> bool
+        ensures { result ≡ some_pass is_closable (filed_in self.now.lanes inc instant) }
+    {
+        match row_of(&self.lanes, inc, instant) {
+            Some(row) => row.filed.entry.outcome.is_none() && !is_live(row.filed.entry.last),
+            None => false,
+        }
+    }
+
+    /// Whether these pairs may be entered: they come behind the entries of the incarnation, they rise, and are chosen at
+    /// moments that a window can choose. It is never said of pairs that may not.
+    pub fn may_enter(&self, inc: u32, pairs: &Pairs) -> bool
+        ensures { result ≡ true → IsEntrance (pairs_in self.now.lanes inc) pairs.now }
+    {
+        may_enter_in(&self.lanes, inc, pairs.as_slice())
+    }
+
+    /// The entry of an occurrence.
+    pub fn entry(&self, inc: u32, instant: u64) -> Option<&Entry>
+        ensures some { (calls : List LedgerCall) → Stands self.now calls → IfSome result (λ entry. option_map (λ f. f.entry) (filed calls inc instant) ≡ Some entry.now) }
+        ensures none { (calls : List LedgerCall) → Stands self.now calls → IfNone result (filed calls inc instant ≡ None) }
+    {
+        match row_of(&self.lanes, inc, instant) {
+            Some(row) => Some(&row.filed.entry),
+            None => None,
+        }
+    }
+
+    /// The attempts of an occurrence, in order; none where it has no entry.
+    pub fn attempts(&self, inc: u32, instant: u64) -> &[Attempt]
+        ensures { (calls : List LedgerCall) → Stands self.now calls → result.now ≡ attempts calls inc instant }
+    {
+        match row_of(&self.lanes, inc, instant) {
+            Some(row) => row.attempts.as_slice(),
+            None => &[],
+        }
+    }
+
+    /// The first occurrence of a shard, by incarnation and instant, whose chosen moment has come and whose entry is
+    /// exhausted or due.
+    pub fn first_due(&self, shard: u8, now: Moment) -> Option<(u32, u64)>
+        requires { shard < SHARDS }
+        ensures { (calls : List LedgerCall) → Stands self.now calls → IsFirstOf (λ i k. answers (Question.ToAct now.0) (filed calls i k)) shard result }
+    {
+        first_of(&self.lanes, shard, Question::ToAct { now: now.0 })
+    }
+
+    /// The first occurrence of a shard, by incarnation and instant, whose entry is live.
+    pub fn first_live(&self, shard: u8) -> Option<(u32, u64)>
+        requires { shard < SHARDS }
+        ensures { (calls : List LedgerCall) → Stands self.now calls → IsFirstOf (λ i k. answers Question.ToWait (filed calls i k)) shard result }
+    {
+        first_of(&self.lanes, shard, Question::ToWait)
+    }
+
+    /// How many attempts are in the air, of a shard where one is named. That of a cancelled entry is one.
+    pub fn live(&self, shard: Option<u8>) -> u64
+        ensures { (calls : List LedgerCall) → Stands self.now calls → result ≡ live_in shard (airborne calls) }
+    {
+        count_in(&self.flights, shard)
+    }
+
+    /// How many entries of an incarnation are not decided.
+    pub fn undecided(&self, inc: u32) -> u64
+        ensures { (calls : List LedgerCall) → Stands self.now calls → result ≡ undecided calls inc }
+    {
+        open_of(&self.lanes, inc)
+    }
+
+    /// How many entries there are, and how many of them stand where at a moment.
+    pub fn counts(&self, now: Moment) -> EntryCounts
+        ensures { (calls : List LedgerCall) (created : ℕ) → Stands self.now calls → IsWithin calls created → result ≡ entry_counts calls created now.0 }
+    {
+        counts_of(&self.lanes, now)
+    }
+}
+
+fn counts_of(lanes: &[Lane], now: Moment) -> EntryCounts
+    requires { length lanes.now ≤ 4294967296 }
+    ensures { result ≡ counted (flat_map (lane_standings lanes.now now.0) (numbers 0 (length lanes.now))) }
+{
+    EntryCounts {
+        entries: number_of(lanes, Kind::Any, now),
+        done: number_of(lanes, Kind::Done, now),
+        finals: number_of(lanes, Kind::Final, now),
+        attempts: number_of(lanes, Kind::Attempts, now),
+        age: number_of(lanes, Kind::Age, now),
+        cancelled: number_of(lanes, Kind::Cancelled, now),
+        waiting: number_of(lanes, Kind::Waiting, now),
+        due: number_of(lanes, Kind::Due, now),
+        live: number_of(lanes, Kind::Live, now),
+        exhausted: number_of(lanes, Kind::Exhausted, now),
+    }
+}
+
+fn open_of(lanes: &[Lane], inc: u32) -> u64
+    ensures { result ≡ open_in (lane_of lanes.now inc).rows }
+{
+    if inc as usize >= lanes.len() {
+        return 0;
+    }
+    let lane = &lanes[inc as usize];
+    lane.undecided()
+}
+
+/// How many entries stand at a moment in this way.
+fn number_of(lanes: &[Lane], kind: Kind, now: Moment) -> u64
+    requires { length lanes.now ≤ 4294967296 }
+    ensures { result ≡ number_of (is_kind kind) (flat_map (lane_standings lanes.now now.0) (numbers 0 (length lanes.now))) }
+{
+    let mut count = 0;
+    for place in 0..lanes.len() {
+        let lane = &lanes[place];
+        count += lane.number(kind, now);
+    }
+    count
+}
+
+fn reserve_in(lanes: &mut Vec<Lane>, inc: u32, count: u16) -> Result<(), AllocError>
+    requires { length lanes.old.items ≤ 4294967296 }
+    ensures few { length lanes.new.items ≤ 4294967296 }
+    ensures rows { RowsAre lanes.old.items lanes.new.items same_rows }
+    ensures room { OnOk result ((inc < length lanes.new.items) × (count ≤ (lane_of lanes.new.items inc).room)) }
+{
+    widen(lanes, inc)?;
+    let lane = &mut lanes[inc as usize];
+    lane.reserve(count as usize)
+}
+
+/// Makes a lane for each incarnation up to this one.
+fn widen(lanes: &mut Vec<Lane>, inc: u32) -> Result<(), AllocError>
+    requires { length lanes.old.items ≤ 4294967296 }
+    ensures few { length lanes.new.items ≤ 4294967296 }
+    ensures rows { RowsAre lanes.old.items lanes.new.items same_rows }
+    ensures wide { OnOk result (inc < length lanes.new.items) }
+{
+    let alloc: Global = *lanes.allocator();
+    while lanes.len() <= inc as usize {
+        lanes.push(Lane::new(alloc))?;
+    }
+    Ok(())
+}
+
+fn enter_in(lanes: &mut Vec<Lane>, inc: u32, policy: Policy, pairs: &[Pair])
+    requires there { inc < length lanes.old.items }
+    requires room { length pairs.now ≤ (lane_of lanes.old.items inc).room }
+    requires entrance { IsEntrance (pairs_in lanes.old.items inc) pairs.now }
+    ensures length { length lanes.new.items ≡ length lanes.old.items }
+    ensures rows { RowsAre lanes.old.items lanes.new.items (rows_entered inc policy pairs.now) }
+{
+    let lane = &mut lanes[inc as usize];
+    lane.enter(policy, pairs);
+}
+
+fn cancel_in(lanes: &mut Vec<Lane>, inc: u32)
+    ensures length { length lanes.new.items ≡ length lanes.old.items }
+    ensures rows { RowsAre lanes.old.items lanes.new.items (rows_cancelled inc) }
+{
+    if (inc as usize) < lanes.len() {
+        let lane = &mut lanes[inc as usize];
+        lane.cancel();
+    }
+}
+
+fn lose_in(lanes: &mut Vec<Lane>, shard: Option<u8>, at: Moment)
+    requires few { length lanes.old.items ≤ 4294967296 }
+    requires at { at.0 ≤ LAST_MOMENT }
+    ensures length { length lanes.new.items ≡ length lanes.old.items }
+    ensures rows { RowsAre lanes.old.items lanes.new.items (rows_lost shard at.0) }
+{
+    for place in 0..lanes.len() {
+        if is_lost_in(shard, place as u32) {
+            let lane = &mut lanes[place];
+            lane.lose(at);
+        }
+    }
+}
+
+/// Whether an incarnation is of the shard, or none is named.
+fn is_lost_in(shard: Option<u8>, inc: u32) -> bool
+    ensures { result ≡ is_lost_in shard inc }
+{
+    match shard {
+        Some(shard) => shard_of(inc) == shard,
+        None => true,
+    }
+}
+
+/// Takes the attempts of a shard out, or all where none is named.
+fn drop_lost(flights: &mut Vec<Flight>, shard: Option<u8>)
+    ensures { flights.new.items ≡ outside shard flights.old.items }
+{
+    let mut place = 0;
+    while place < flights.len() {
+        if is_lost_in(shard, flights[place].inc) {
+            let _ = flights.remove(place);
+        } else {
+            place += 1;
+        }
+    }
+}
+
+fn count_in(flights: &[Flight], shard: Option<u8>) -> u64
+    ensures { result ≡ live_in shard flights.now }
+{
+    let mut count = 0;
+    for flight in flights {
+        if is_lost_in(shard, flight.inc) {
+            count += 1;
+        }
+    }
+    count
+}
+
+/// The entry of an occurrence.
+fn row_of(lanes: &[Lane], inc: u32, instant: u64) -> Option<&Row>
+    ensures some { IfSome result (λ row. row_at (lane_of lanes.now inc).rows instant ≡ Some row.now) }
+    ensures small { IfSome result (λ row. IsSmallRow row.now) }
+    ensures none { IfNone result (row_at (lane_of lanes.now inc).rows instant ≡ None) }
+{
+    if inc as usize >= lanes.len() {
+        return None;
+    }
+    let lane = &lanes[inc as usize];
+    lane.get(instant)
+}
+
+fn is_due(row: &Row, at: Moment) -> bool
+    requires { IsSmallRow row.now }
+    ensures { result ≡ is_due (standing_of row.now.filed at.0) }
+{
+    match standing(&row.filed.entry, row.filed.policy, at) {
+        Standing::Due => true,
+        _ => false,
+    }
+}
+
+fn is_live(last: Last) -> bool
+    ensures { result ≡ is_live_last last }
+{
+    match last {
+        Last::Live { .. } => true,
+        _ => false,
+    }
+}
+
+fn may_enter_in(lanes: &[Lane], inc: u32, pairs: &[Pair]) -> bool
+    ensures { result ≡ true → IsEntrance (pairs_in lanes.now inc) pairs.now }
+{
+    if inc as usize >= lanes.len() {
+        return may_follow(&[], pairs);
+    }
+    let lane = &lanes[inc as usize];
+    lane.may_enter(pairs)
+}
+
+/// Makes room for an attempt of an occurrence, where that has an entry.
+fn room_in(lanes: &mut Vec<Lane>, inc: u32, instant: u64) -> Result<(), AllocError>
+    ensures length { length lanes.new.items ≡ length lanes.old.items }
+    ensures same { Tells lanes.new.items (filed_in lanes.old.items) (pairs_in lanes.old.items) (attempts_in lanes.old.items) }
+    ensures room { OnOk result (IsSome (filed_in lanes.new.items inc instant) → 1 ≤ room_at (lane_of lanes.new.items inc).rows instant) }
+{
+    if inc as usize >= lanes.len() {
+        return Ok(());
+    }
+    let lane = &mut lanes[inc as usize];
+    lane.reserve_begin(instant)
+}
+
+/// The first occurrence of a shard with this answer.
+fn first_of(lanes: &[Lane], shard: u8, question: Question) -> Option<(u32, u64)>
+    requires few { length lanes.now ≤ 4294967296 }
+    requires shard { shard < SHARDS }
+    ensures { IsFirstOf (λ i k. answers question (filed_in lanes.now i k)) shard result }
+{
+    let mut inc = shard as usize;
+    while inc < lanes.len() {
+        if let Some(instant) = lanes[inc].first(question) {
+            return Some((inc as u32, instant));
+        }
+        inc += SHARDS as usize;
+    }
+    None
+}
+
+fn begin_in(lanes: &mut Vec<Lane>, inc: u32, instant: u64, epoch: u64, at: Moment) -> u16
+    requires room { IsSome (filed_in lanes.old.items inc instant) → 1 ≤ room_at (lane_of lanes.old.items inc).rows instant }
+    requires due { some_pass (λ f. is_due (standing_of f at.0)) (filed_in lanes.old.items inc instant) ≡ true }
+    requires at { at.0 ≤ LAST_MOMENT }
+    ensures length { length lanes.new.items ≡ length lanes.old.items }
+    ensures number { IfSome (filed_in lanes.old.items inc instant) (λ f. result ≡ f.entry.used + 1) }
+    ensures changes { ChangesIn lanes.old.items lanes.new.items inc instant (with_begin at.0) (λ before. before ++ begun_attempt result at.0 epoch ∷ []) }
+{
+    let lane = &mut lanes[inc as usize];
+    lane.begin(instant, epoch, at)
+}
+
+fn end_in(
+    lanes: &mut Vec<Lane>,
+    inc: u32,
+    instant: u64,
+    number: u16,
+    verdict: Verdict,
+    status: u16,
+    at: Moment,
+)
+    requires { at.0 ≤ LAST_MOMENT }
+    ensures length { length lanes.new.items ≡ length lanes.old.items }
+    ensures changes { ChangesIn lanes.old.items lanes.new.items inc instant (with_end verdict at.0) (map (end_attempt number verdict status)) }
+{
+    if (inc as usize) < lanes.len() {
+        let lane = &mut lanes[inc as usize];
+        lane.end(instant, number, verdict, status, at);
+    }
+}
+
+fn close_in(lanes: &mut Vec<Lane>, inc: u32, instant: u64, reason: Reason)
+    ensures length { length lanes.new.items ≡ length lanes.old.items }
+    ensures changes { ChangesIn lanes.old.items lanes.new.items inc instant (decided_as (outcome_of reason)) (λ before. before) }
+{
+    if (inc as usize) < lanes.len() {
+        let lane = &mut lanes[inc as usize];
+        lane.close(instant, reason);
+    }
+}
+
+/// Adds an attempt, where there is room for it.
+fn put_last(flights: &mut Vec<Flight>, flight: Flight)
+    requires { vec_len flights.old < vec_capacity flights.old }
+    ensures flights { flights.new.items ≡ flights.old.items ++ flight ∷ [] }
+    ensures room { vec_capacity flights.old - vec_len flights.old ≤ vec_capacity flights.new - vec_len flights.new + 1 }
+{
+    let _ = flights.push(flight);
+}
+
+/// Takes the attempt of an occurrence out.
+fn land(flights: &mut Vec<Flight>, inc: u32, instant: u64)
+    ensures { flights.new.items ≡ but_for inc instant flights.old.items }
+{
+    let mut place = 0;
+    while place < flights.len() {
+        if is_of(flights[place], inc, instant) {
+            let _ = flights.remove(place);
+        } else {
+            place += 1;
+        }
+    }
+}
+
+fn is_of(flight: Flight, inc: u32, instant: u64) -> bool
+    ensures { result ≡ is_of inc instant flight }
+{
+    inc == flight.inc && instant == flight.instant
+}

@@ -1,0 +1,9 @@
+//! Tests of the ledger, through its public face.
+#![tactic(auto)]
+
+#[cfg(test)]
+mod kit;
+#[cfg(test)]
+mod reads;
+#[cfg(test)]
+mod runs;

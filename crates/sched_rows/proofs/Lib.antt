@@ -1,0 +1,13 @@
+pub mod SpanLemmas
+pub mod OrderLemmas
+pub mod NameLemmas
+pub mod PlaceLemmas
+pub mod LivingLemmas
+pub mod ChangeLemmas
+pub mod FilingLemmas
+pub mod KeptLemmas
+pub mod GroupLemmas
+pub mod AloneLemmas
+pub mod PageLemmas
+pub mod GroupPageLemmas
+pub mod NextLemmas

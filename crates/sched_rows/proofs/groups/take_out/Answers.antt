@@ -1,0 +1,6 @@
+use Rattle.std.proofs.Common.{ℕ, ◌==◌, not, rules}
+use Rattle.std.proofs.lemmas.Fn.{filter_same}
+use Rattle.sched_rows.proofs.groups.take_out.Goals as goal
+
+pub returns : goal.returns
+returns c = filter_same _ (λ (n : ℕ). not (n == c.args.place)) _ (λ x b f' t. search rules) _ _ c.retain.ensures.filtered

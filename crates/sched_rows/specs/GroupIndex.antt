@@ -1,0 +1,38 @@
+-- The groups with their index by name.
+use Rattle.std.specs.Prelude.{◌≡◌, ℕ, ◌≤◌, ◌-◌, nat_lt, if◌then◌else◌, Bool, Option, Some, None, List, length}
+use Rattle.plain_words.specs.Lists.{nth, some_pass}
+use Rattle.plain_words.specs.declared.limits.TheConstants.{MOST_GROUPS}
+use Rattle.sched_plain.specs.declared.row.GroupRow.{GroupRow}
+use Rattle.sched_calls.specs.Replies.{text_before, sorted}
+use Rattle.sched_rows.specs.Order.{numbered, numbers_in, IsRising, IsPlace}
+
+-- the groups in the order of their creation, and room for so many more
+pub record Gathered : Type 0 where
+  pub groups : List GroupRow
+  pub room : ℕ
+
+-- by name
+abbrev pub group_before : (ℕ × GroupRow) → (ℕ × GroupRow) → Bool
+group_before p q = text_before p.1.name q.1.name
+
+abbrev pub groups_in_order : List GroupRow → List (ℕ × GroupRow)
+groups_in_order groups = sorted group_before (numbered 1 groups)
+
+-- the group at a place comes before a name
+abbrev pub group_short : List GroupRow → List ℕ → ℕ → Bool
+group_short groups name place = some_pass (λ group. text_before group.name name) (nth groups place)
+
+-- a place, where the group at another was taken out
+abbrev pub lowered : ℕ → ℕ → ℕ
+lowered out place = if nat_lt out place then place - 1 else place
+
+-- the index is that of the groups; no two have one name
+pub record IsGrouped (groups : List GroupRow) (places : List ℕ) : Type 0 where
+  pub few : length groups ≤ MOST_GROUPS
+  pub names : places ≡ numbers_in (groups_in_order groups)
+  pub apart : IsRising group_before (groups_in_order groups)
+
+-- an index from which on a list behind a name may go
+abbrev pub IsGroupStart : List GroupRow → List ℕ → Option (List ℕ) → ℕ → Type 0
+IsGroupStart groups places None at = at ≡ 0
+IsGroupStart groups places (Some last) at = IsPlace (group_short groups last) places at

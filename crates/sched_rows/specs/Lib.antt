@@ -1,0 +1,9 @@
+pub mod State
+pub mod Answers
+pub mod Order
+pub mod Spans
+pub mod Filing
+pub mod Groups
+pub mod GroupIndex
+pub mod FaultParts
+pub mod Pages

@@ -1,0 +1,4 @@
+mod Tokens
+mod Order
+mod Places
+mod Putting

@@ -1,0 +1,12 @@
+pub mod Utf8
+pub mod Joining
+pub mod Pairs
+pub mod Widths
+pub mod Fitting
+pub mod Lengths
+pub mod RuleLaws
+pub mod StepLaws
+pub mod Spellings
+pub mod Rebuilding
+pub mod ReadingLaws
+pub mod PayloadLengths

@@ -1,0 +1,9 @@
+pub mod Cells
+pub mod Payload
+pub mod Tables
+pub mod Rules
+pub mod Format
+pub mod Faults
+pub mod Parts
+pub mod Buffer
+pub mod Examples
