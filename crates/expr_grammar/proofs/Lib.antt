@@ -23,5 +23,6 @@ mod RunLaws
 mod RunRows
 mod SetLaws
 mod SetsBack
+mod SpelledLaws
 mod Texts
 mod ValueSetLaws

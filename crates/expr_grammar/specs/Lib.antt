@@ -5,3 +5,4 @@ pub mod Items
 pub mod Parts
 pub mod Cron
 pub mod ValueSets
+pub mod Spelled

@@ -5,6 +5,8 @@ ghost use Rattle.expressions.specs.Spelling.{IsValidExpression, Spells};
 ghost use Rattle.expressions.specs.ExpressionFaults.{fault};
 ghost use Rattle.expr_grammar.specs.declared.fault.ExprFault.{ExprFault};
 ghost use Rattle.expr_grammar.specs.Answers.{Answers, told};
+ghost use Rattle.expr_grammar.specs.Spelled.{spelled as expression_of};
+ghost use Rattle.std.specs.Result.{result_ok};
 
 use crate::at::read_at;
 use crate::cron::read_cron;
@@ -21,6 +23,8 @@ pub fn read_expr(text: &[u8]) -> Result<Expr, ExprFault>
     // The expression exactly where the text spells it, else exactly the first fault at its place.
     ensures spelled { (e : Expr) → (result ≡ Ok e) ↔ Spells text.now e }
     ensures faulty { (f : ExprFault) → (result ≡ Err f) ↔ (fault text.now ≡ Some (told f)) }
+    // As a function of the text: the expression, or none.
+    ensures whole { result_ok result ≡ expression_of text.now }
     // What is read may be printed.
     ensures valid { IfOk result IsValidExpression }
     // No text spells two expressions.

@@ -1,4 +1,5 @@
 use Rattle.expr_grammar.proofs.Laws.{fault_exactly, read_valid, spelled_exactly, spelled_once}
+use Rattle.expr_grammar.proofs.SpelledLaws.{spelled_answer}
 use Rattle.expr_grammar.proofs.read.read_expr.Goals as goal
 
 pub returns-clause-spelled : goal.returns-clause-spelled
@@ -12,3 +13,6 @@ returns-clause-valid c = read_valid c.args.text.now c.read_form.result c.read_fo
 
 pub returns-clause-once : goal.returns-clause-once
 returns-clause-once c = spelled_once c.args.text.now
+
+pub returns-clause-whole : goal.returns-clause-whole
+returns-clause-whole c = spelled_answer c.args.text.now c.read_form.result c.read_form.ensures

@@ -1,0 +1,4 @@
+mod BodiesOnExamples
+mod Ids
+mod Pieces
+mod Writes

@@ -1,0 +1,20 @@
+use Rattle.std.proofs.Common.{rules, refl}
+use Rattle.request_calls.specs.Calls.{schedule_deletion}
+use Rattle.request_fields.proofs.Chains.{ends}
+use Rattle.request_calls.proofs.reads.schedule_deletion.Goals as goal
+
+pub returns-in_err-name-clause-value : goal.returns-in_err-name-clause-value
+unfolding schedule_deletion
+returns-in_err-name-clause-value c = search (rules, ends, c.in_err-name.ensures)
+
+pub returns-in_err-group-clause-value : goal.returns-in_err-group-clause-value
+unfolding schedule_deletion
+returns-in_err-group-clause-value c = rw c.in_ok-name.ensures (search (rules, ends, c.in_err-group.ensures))
+
+pub returns-in_err-token-clause-value : goal.returns-in_err-token-clause-value
+unfolding schedule_deletion
+returns-in_err-token-clause-value c = rw (c.in_ok-name.ensures, c.in_ok-group.ensures) (search (rules, ends, c.in_err-token.ensures))
+
+pub returns-clause-value : goal.returns-clause-value
+unfolding schedule_deletion
+returns-clause-value c = rw (c.in_ok-name.ensures, c.in_ok-group.ensures, c.in_ok-token.ensures) refl
