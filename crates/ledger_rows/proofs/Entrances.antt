@@ -1,5 +1,5 @@
 -- What becomes of a lane where entries are added.
-use Rattle.std.proofs.Common.{◌≡◌, ℕ, zero, suc, ◌+◌, ◌-◌, ◌≤◌, ◌<◌, Option, Some, None, List, [], ◌∷◌, ◌++◌, map, min, length, length-append, length-take, take, get_or, slice_index, refl, sym, ap, ◌∙◌, subst, inl, inr, arith, append_assoc}
+use Rattle.std.proofs.Common.{◌≡◌, ℕ, zero, suc, ◌+◌, ◌-◌, ◌≤◌, ◌<◌, Bool, true, false, Option, Some, None, List, [], ◌∷◌, ◌++◌, map, min, length, length-append, length-take, take, get_or, slice_index, refl, sym, ap, ◌∙◌, subst, inl, inr, arith, append_assoc}
 use Rattle.std.proofs.lemmas.Bool.{cases_lt}
 use Rattle.std.proofs.lemmas.List.{length-map, map-append, get_or_append_left, get_or-append_right, get_or-map, get_or-take, take_more, get_or-append-add}
 use Rattle.std.proofs.Math.Seq.{get_or-append_seam}
@@ -59,6 +59,12 @@ behind policy pairs initial i may within j lt =
           ap (λ l. get_or l k 0) taken ∙ get_or-take i (instants_of pairs) k 0 before in
           omega (arith, at, same, may.rising k i before within)
     ]
+
+-- the entry of a pair that may be entered has small numbers
+pub new_small : (policy : Policy) (pairs : List Pair) (initial : List Row) (i : ℕ) (pair : Pair) (row : Row) → IsEntrance (pairs_of initial) pairs → i < length pairs
+    → policy.retries ≤ 255 → row ≡ new_row policy (get_or pairs i pair) → IsSmallRow row
+new_small policy pairs initial i pair row may within few made =
+    subst IsSmallRow (sym made) (record { chosen = may.small i pair within; last = omega arith; retries = few })
 
 pub entering_step : (policy : Policy) (pairs : List Pair) (initial now new : List Row) (i : ℕ) (pair : Pair) (row : Row)
     → IsEntrance (pairs_of initial) pairs → IsLane initial → IsLane now → now ≡ initial ++ map (new_row policy) (take i pairs) → i < length pairs
@@ -173,3 +179,31 @@ last_is_top rows d rising some j lt =
           let same : slice_index (instants_in rows) j ≡ slice_index (instants_in rows) (length rows - 1) = ap (slice_index (instants_in rows)) (omega (arith, last, lt, long)) in
           omega (arith, same, end)
     ]
+
+-- pairs that may be entered come above what the entries are all before
+pub begins_above : (rows : List Row) (pairs : List Pair) (last : Option ℕ) → ((p : ℕ) → IsBehind rows p → IsAbove last p) → IsEntrance (pairs_of rows) pairs
+    → (j : ℕ) → j < length pairs → IsAbove last (slice_index (instants_of pairs) j)
+begins_above rows pairs last next may j lt =
+    next (slice_index (instants_of pairs) j) (λ i within.
+    let long : length (pairs_of rows) ≡ length rows = length-map rows pair_of in
+    let same : get_or (instants_of (pairs_of rows)) i 0 ≡ get_or (instants_in rows) i 0 = ap (λ l. get_or l i 0) (paired_instants rows) in
+    let lower = may.above i j (omega (arith, within, long)) lt in omega (arith, same, lower))
+
+pub false_or_true : {A : Type 0} (b : Bool) → b ≡ false → b ≡ true → A
+false_or_true b e f = let clash : ⊥ = cc in absurd clash
+
+-- the last entry is before what all entries are before
+pub last_above : (rows : List Row) (d : Row) (p : ℕ) → 0 < length rows → IsBehind rows p → (get_or rows (length rows - 1) d).instant < p
+last_above rows d p some behind =
+    let end : slice_index (instants_in rows) (length rows - 1) ≡ (get_or rows (length rows - 1) d).instant =
+    get_or-map {X = Row} (λ r. r.instant) rows (length rows - 1) d 0 (omega (arith, some)) in
+    let lower = behind (length rows - 1) (omega (arith, some)) in omega (arith, end, lower)
+
+-- of pairs that may be entered a later one is above an earlier
+pub next_above : (old pairs : List Pair) (i j : ℕ) (d : Pair) → IsEntrance old pairs → i < j → j < length pairs → (get_or pairs i d).instant < slice_index (instants_of pairs) j
+next_above old pairs i j d may lt within =
+    let here : slice_index (instants_of pairs) i ≡ (get_or pairs i d).instant = get_or-map {X = Pair} (λ q. q.instant) pairs i d 0 (omega (arith, lt, within)) in
+    let lower = may.rising i j lt within in omega (arith, here, lower)
+
+pub pair_above : (pairs : List Pair) (i : ℕ) (d : Pair) (last : Option ℕ) → i < length pairs → IsAbove last (slice_index (instants_of pairs) i) → IsAbove last (get_or pairs i d).instant
+pair_above pairs i d last lt above = subst (IsAbove last) (get_or-map {X = Pair} (λ q. q.instant) pairs i d 0 lt) above

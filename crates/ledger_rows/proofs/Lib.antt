@@ -2,6 +2,10 @@ pub mod ListSteps
 pub mod Sifting
 pub mod Lookups
 pub mod StandingLemmas
+pub mod NumberLemmas
+pub mod ShelfLemmas
 pub mod Entrances
 pub mod Standing
 pub mod Tallies
+pub mod FlightLemmas
+pub mod LastLemmas

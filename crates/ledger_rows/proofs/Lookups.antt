@@ -173,6 +173,20 @@ lost_small at (lasts.Ended ended) le small = small
 pub loss_mild : (at : ℕ) → at ≤ LAST_MOMENT → IsMild (with_loss at)
 loss_mild at le = record { chosen = λ e. refl; last = λ e small. lost_small at e.last le small }
 
+-- a mild change keeps numbers small
+pub op_small : (rows looked : List Row) (k p : ℕ) (old new : Row) (change : Entry → Entry) → looked ≡ rows → IsPlace looked k p → old ≡ get_or rows p old → IsLane rows
+    → IsMild change → new.filed ≡ on_entry change old.filed → IsSmallRow new
+op_small rows looked k p old new change same is there lane mild filed =
+    let place : IsPlace rows k p = subst (λ (l : List Row). IsPlace l k p) same is in
+    let entry : new.filed.entry ≡ change old.filed.entry = ap {A = Filed} (λ f. f.entry) filed in
+    let chosen : new.filed.entry.chosen ≡ old.filed.entry.chosen = ap {A = Entry} (λ e. e.chosen) entry ∙ mild.chosen old.filed.entry in
+    let was : IsSmallRow old = subst IsSmallRow (sym there) (lane.small p old place.in_range) in
+    record {
+      chosen = omega (arith, chosen, was.chosen);
+      last = subst (λ (e : Entry). last_at e.last ≤ LAST_CHOSEN) (sym entry) (mild.last old.filed.entry was.last);
+      retries = subst (λ (f : Filed). f.policy.retries ≤ 255) (sym filed) was.retries;
+    }
+
 -- what a changed entry makes of its lane
 pub record Done (rows new : List Row) (k : ℕ) (change : Entry → Entry) (grow : List Attempt → List Attempt) : Type 0 where
   pub lane : IsLane new
@@ -186,12 +200,7 @@ op_done rows looked k p old new change grow same is there lane mild instant file
     let place : IsPlace rows k p = subst (λ (l : List Row). IsPlace l k p) same is in
     let entry : new.filed.entry ≡ change old.filed.entry = ap {A = Filed} (λ f. f.entry) filed in
     let chosen : new.filed.entry.chosen ≡ old.filed.entry.chosen = ap {A = Entry} (λ e. e.chosen) entry ∙ mild.chosen old.filed.entry in
-    let was : IsSmallRow old = subst IsSmallRow (sym there) (lane.small p old place.in_range) in
-    let small : IsSmallRow new = record {
-      chosen = omega (arith, chosen, was.chosen);
-      last = subst (λ (e : Entry). last_at e.last ≤ LAST_CHOSEN) (sym entry) (mild.last old.filed.entry was.last);
-      retries = subst (λ (f : Filed). f.policy.retries ≤ 255) (sym filed) was.retries;
-    } in
+    let small : IsSmallRow new = op_small rows looked k p old new change same is there lane mild filed in
     let change_is : IsChange change grow (get_or rows p old) new =
     subst (λ (r : Row). IsChange change grow r new) there (record { instant = instant; filed = filed; attempts = attempts; chosen = chosen }) in
     record {

@@ -25,7 +25,7 @@ cancelled_attempts : (o : Option Row) → attempts_in_row (option_map cancelled_
 cancelled_attempts None = refl
 cancelled_attempts (Some row) = refl
 
-filed_if_cancelled : (b : Bool) (rows : List Row) (k : ℕ)
+pub filed_if_cancelled : (b : Bool) (rows : List Row) (k : ℕ)
     → filed_at (if b then map cancelled_row rows else rows) k ≡ changed_if b (decided_as outcomes.Cancelled) (filed_at rows k)
 filed_if_cancelled true rows k = ap filed_in_row (found_mapped cancelled_row cancelled_even rows k) ∙ cancelled_filed (row_at rows k)
 filed_if_cancelled false rows k = refl
@@ -57,7 +57,7 @@ lost_attempts : (at : ℕ) (o : Option Row) → attempts_in_row (option_map (los
 lost_attempts at None = refl
 lost_attempts at (Some row) = refl
 
-filed_if_lost : (b : Bool) (at : ℕ) → at ≤ LAST_MOMENT → (rows : List Row) (k : ℕ)
+pub filed_if_lost : (b : Bool) (at : ℕ) → at ≤ LAST_MOMENT → (rows : List Row) (k : ℕ)
     → filed_at (if b then map (lost_row at) rows else rows) k ≡ changed_if b (with_loss at) (filed_at rows k)
 filed_if_lost true at le rows k = ap filed_in_row (found_mapped (lost_row at) (lost_even at le) rows k) ∙ lost_filed at (row_at rows k)
 filed_if_lost false at le rows k = refl
@@ -115,7 +115,7 @@ attempts_else policy None None = refl
 attempts_else policy None (Some pair) = refl
 attempts_else policy (Some row) new = refl
 
-filed_if_entered : (b : Bool) (policy : Policy) (pairs : List Pair) (rows : List Row) (k : ℕ)
+pub filed_if_entered : (b : Bool) (policy : Policy) (pairs : List Pair) (rows : List Row) (k : ℕ)
     → filed_at (if b then rows ++ map (new_row policy) pairs else rows) k ≡ (if b then or_else (filed_at rows k) (filed_by policy pairs k) else filed_at rows k)
 filed_if_entered true policy pairs rows k =
     let new = find {X = Pair} (λ pair. k == pair.instant) pairs in

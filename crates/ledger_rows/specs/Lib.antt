@@ -3,4 +3,7 @@ pub mod Wanting
 pub mod Counting
 pub mod Kept
 pub mod Rows
+pub mod Numbers
 pub mod State
+pub mod Shelves
+pub mod Waiting

@@ -1,5 +1,5 @@
 -- What contracts see of a ledger, and for which calls it stands.
-use Rattle.std.specs.Prelude.{◌≡◌, ℕ, ◌≤◌, ◌<◌, ◌==◌, ◌&&◌, Bool, if◌then◌else◌, Option, IsSome, is_none, not, map, List, [], ◌++◌, length, slice_index_or}
+use Rattle.std.specs.Prelude.{◌≡◌, ℕ, ◌≤◌, ◌<◌, ◌==◌, ◌&&◌, Bool, true, if◌then◌else◌, Option, IsSome, is_none, not, map, List, [], ◌++◌, length, slice_index_or}
 use Rattle.sched_plain.specs.declared.entry.Attempt.{Attempt}
 use Rattle.sched_plain.specs.declared.entry.Entry.{Entry}
 use Rattle.sched_plain.specs.declared.entry.Filed.{Filed}
@@ -12,7 +12,8 @@ use Rattle.ledger_rows.specs.declared.row.Flight.{Flight}
 use Rattle.ledger_rows.specs.declared.row.Row.{Row}
 use Rattle.ledger_rows.specs.Rows.{LaneRows, filed_at, attempts_at, pairs_of, room_at, new_row, cancelled_row, lost_row, standings_looked}
 use Rattle.sched_plain.specs.declared.standing.Standing.{Standing}
-use Rattle.ledger_rows.specs.Air.{airborne}
+use Rattle.ledger_rows.specs.Air.{airborne, is_flown}
+use Rattle.plain_words.specs.Lists.{some_pass}
 
 -- the entries by the number of their incarnation, the attempts in the air, and room for more of these
 pub record State : Type 0 where
@@ -87,9 +88,19 @@ rows_cancelled inc i rows = if i == inc then map cancelled_row rows else rows
 abbrev pub rows_lost : Option ℕ → ℕ → ℕ → List Row → List Row
 rows_lost shard at i rows = if is_lost_in shard i then map (lost_row at) rows else rows
 
+abbrev pub rows_lost_at : ℕ → ℕ → ℕ → List Row → List Row
+rows_lost_at inc at i rows = if i == inc then map (lost_row at) rows else rows
+
 abbrev pub same_rows : ℕ → List Row → List Row
 same_rows i rows = rows
 
 -- the standings of an incarnation, as its lane has them
 abbrev pub lane_standings : List LaneRows → ℕ → ℕ → List Standing
 lane_standings lanes now inc = standings_looked now (lane_of lanes inc).rows
+
+-- what is filed has an attempt that is live, and each such attempt is in the air
+abbrev pub is_live_filed : Filed → Bool
+is_live_filed filed = is_live_last filed.entry.last
+
+abbrev pub AreFlown : List LaneRows → List Flight → Type 0
+AreFlown lanes flights = (inc instant : ℕ) → some_pass is_live_filed (filed_in lanes inc instant) ≡ true → is_flown flights inc instant ≡ true

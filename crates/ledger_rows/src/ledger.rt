@@ -1,23 +1,30 @@
 //! The ledger as its callers see it.
 ghost use Rattle.std.specs.Prelude.{◌≡◌, ℕ, ◌+◌, ◌-◌, ◌≤◌, ◌<◌, true, Some, None, IfNone, IsSome, List, [], ◌∷◌, ◌++◌, map, length, vec_len, vec_capacity, IfSome, OnOk};
-ghost use Rattle.plain_words.specs.Lists.{some_pass, numbers};
+ghost use Rattle.plain_words.specs.Lists.{last, some_pass, numbers};
 ghost use Rattle.std.specs.Option.{option_map};
 ghost use Rattle.sched_plain.specs.Ledger.{LedgerCall, Entered, Begun, Finished, Closed, Cancelled, Lost};
 ghost use Rattle.sched_plain.specs.Attempts.{begun_attempt, end_attempt, lose_attempt, is_live_attempt, is_live_last, attempts};
-ghost use Rattle.sched_plain.specs.Entries.{with_begin, with_end, with_loss, decided_as, outcome_of, is_lost_in, filed, undecided};
+ghost use Rattle.sched_plain.specs.Entries.{with_begin, with_end, with_loss, decided_as, outcome_of, is_lost_in, entries, filed, instants_of, undecided};
 ghost use Rattle.ledger_rows.specs.Rows.{LaneRows, room_at, row_at, open_in, IsEntrance, IsSmallRow};
-ghost use Rattle.ledger_rows.specs.Air.{but_for, is_of, outside, live_in, airborne};
-ghost use Rattle.ledger_rows.specs.State.{filed_in, pairs_in, attempts_in, lane_of, is_closable, ChangesIn, Tells, RowsAre, same_rows, rows_entered, rows_cancelled, rows_lost, lane_standings};
-ghost use Rattle.ledger_rows.specs.Wanting.{answers, IsFirstOf};
+ghost use Rattle.ledger_rows.specs.Air.{but_for, flight_of, is_of, outside, live_in, airborne};
+ghost use Rattle.ledger_rows.specs.State.{filed_in, pairs_in, attempts_in, lane_of, is_closable, ChangesIn, Tells, RowsAre, same_rows, rows_entered, rows_cancelled, rows_lost, rows_lost_at, lane_standings};
+ghost use Rattle.ledger_rows.specs.Shelves.{AreShelved};
+ghost use Rattle.ledger_rows.specs.Numbers.{bound_at, lane_number};
+ghost use Rattle.ledger_rows.specs.Wanting.{answers, IsFirstIn, IsFirstOf};
 ghost use Rattle.sched_plain.specs.Standing.{standing_of};
+ghost use Rattle.sched_plain.specs.declared.entry.Filed.{Filed as TheFiled};
 ghost use Rattle.sched_plain.specs.Report.{is_due, number_of};
 ghost use Rattle.std.specs.List.{flat_map};
 ghost use Rattle.ledger_rows.specs.Counting.{is_kind, IsWithin, entry_counts, counted};
 
 use crate::counts::{EntryCounts, Kind};
-use crate::lane::{Lane, may_follow};
+use crate::lane::{Lane, may_follow, row_of};
 use crate::question::Question;
 use crate::row::{Flight, Row};
+use crate::shelves::{first_place, note, plant, put_place, reserve_place};
+use crate::waiting::first_live_of;
+use crate::wants::bound_at;
+use min_tree::MinTree;
 use policy_rules::standing;
 use sched_plain::{
     Attempt, Entry, Filed, LAST_MOMENT, Last, Moment, Pair, Pairs, Policy, Reason, SHARDS,
@@ -31,19 +38,22 @@ use std::marker::Model;
 pub struct Ledger {
     /// The entries of each incarnation, at its number.
     lanes: Vec<Lane>,
+    /// The least number of each incarnation's entries, a tree for each shard.
+    shelves: Vec<MinTree>,
     /// The attempts in the air, in the order of their begins.
     flights: Vec<Flight>,
 }
 
 impl Model for Ledger {
     ghost use Rattle.std.specs.Prelude.{◌-◌, ◌≤◌, length, vec_len, vec_capacity};
-    ghost use Rattle.ledger_rows.specs.State.{State};
+    ghost use Rattle.ledger_rows.specs.State.{State, AreFlown};
+    ghost use Rattle.ledger_rows.specs.Shelves.{AreShelved};
 
     ghost Value = { State };
 
     ghost view = { λ l. record { lanes = l.lanes.items; flights = l.flights.items; room = vec_capacity l.flights - vec_len l.flights } };
 
-    ghost invariant = { λ l. length l.lanes.items ≤ 4294967296 };
+    ghost invariant = { λ l. (length l.lanes.items ≤ 4294967296) × AreShelved l.lanes.items l.shelves.items × AreFlown l.lanes.items l.flights.items };
 }
 
 impl Ledger {
@@ -55,6 +65,7 @@ impl Ledger {
     {
         Ledger {
             lanes: Vec::new(alloc),
+            shelves: Vec::new(alloc),
             flights: Vec::new(alloc),
         }
     }
@@ -65,16 +76,18 @@ impl Ledger {
         ensures stands { (calls : List LedgerCall) → Stands self.old calls → Stands self.new calls }
         ensures room { OnOk result (HasEnterRoom self.new inc count) }
     {
-        reserve_in(&mut self.lanes, inc, count)
+        reserve_in(&mut self.lanes, &mut self.shelves, inc, count)
     }
 
     /// The occurrences of these pairs have entries with this policy. It uses up room for so many.
     pub fn enter(&mut self, inc: u32, policy: Policy, pairs: &Pairs)
         requires room { HasEnterRoom self.old inc (length pairs.now) }
         requires entrance { IsEntrance (pairs_in self.old.lanes inc) pairs.now }
-        ensures { (calls : List LedgerCall) → Stands self.old calls → Stands self.new (Entered inc policy pairs.now ∷ calls) }
+        ensures stands { (calls : List LedgerCall) → Stands self.old calls → Stands self.new (Entered inc policy pairs.now ∷ calls) }
+        ensures flights { self.new.flights ≡ self.old.flights }
     {
-        enter_in(&mut self.lanes, inc, policy, pairs.as_slice());
+        let shelves = &mut self.shelves;
+        enter_in(&mut self.lanes, shelves, inc, policy, pairs.as_slice());
     }
 
     /// Makes room for one more attempt of an occurrence, and for its end. Where memory is wanted, or the occurrence has no
@@ -85,7 +98,7 @@ impl Ledger {
         ensures room { OnOk result (HasBeginRoom self.new inc instant) }
     {
         self.flights.reserve(1)?;
-        room_in(&mut self.lanes, inc, instant)
+        room_in(&mut self.lanes, &mut self.shelves, inc, instant)
     }
 
     /// The next attempt of an occurrence begins at a moment, with the epoch of the one who sends it; its number, from 1, is
@@ -96,8 +109,10 @@ impl Ledger {
         requires at { at.0 ≤ LAST_MOMENT }
         ensures number { IfSome (filed_in self.old.lanes inc instant) (λ f. result ≡ f.entry.used + 1) }
         ensures stands { (calls : List LedgerCall) → Stands self.old calls → Stands self.new (Begun inc instant result epoch at.0 ∷ calls) }
+        ensures flights { self.new.flights ≡ self.old.flights ++ flight_of inc instant result ∷ [] }
     {
-        let number = begin_in(&mut self.lanes, inc, instant, epoch, at);
+        let shelves = &mut self.shelves;
+        let number = begin_in(&mut self.lanes, shelves, inc, instant, epoch, at);
         put_last(
             &mut self.flights,
             Flight {
@@ -121,33 +136,47 @@ impl Ledger {
     )
         requires live { is_live_attempt (filed_in self.old.lanes inc instant) number ≡ true }
         requires at { at.0 ≤ LAST_MOMENT }
-        ensures { (calls : List LedgerCall) → Stands self.old calls → Stands self.new (Finished inc instant number verdict status at.0 ∷ calls) }
+        ensures stands { (calls : List LedgerCall) → Stands self.old calls → Stands self.new (Finished inc instant number verdict status at.0 ∷ calls) }
+        ensures flights { self.new.flights ≡ but_for inc instant self.old.flights }
     {
-        end_in(&mut self.lanes, inc, instant, number, verdict, status, at);
+        let shelves = &mut self.shelves;
+        end_in(
+            &mut self.lanes,
+            shelves,
+            inc,
+            instant,
+            number,
+            verdict,
+            status,
+            at,
+        );
         land(&mut self.flights, inc, instant);
     }
 
     /// An entry that is open, and has no attempt in the air, is given up.
     pub fn close(&mut self, inc: u32, instant: u64, reason: Reason)
         requires { some_pass is_closable (filed_in self.old.lanes inc instant) ≡ true }
-        ensures { (calls : List LedgerCall) → Stands self.old calls → Stands self.new (Closed inc instant reason ∷ calls) }
+        ensures stands { (calls : List LedgerCall) → Stands self.old calls → Stands self.new (Closed inc instant reason ∷ calls) }
+        ensures flights { self.new.flights ≡ self.old.flights }
     {
-        close_in(&mut self.lanes, inc, instant, reason);
+        close_in(&mut self.lanes, &mut self.shelves, inc, instant, reason);
     }
 
     /// The entries of an incarnation that are not decided are cancelled; an attempt in the air stays there.
     pub fn cancel(&mut self, inc: u32)
-        ensures { (calls : List LedgerCall) → Stands self.old calls → Stands self.new (Cancelled inc ∷ calls) }
+        ensures stands { (calls : List LedgerCall) → Stands self.old calls → Stands self.new (Cancelled inc ∷ calls) }
+        ensures flights { self.new.flights ≡ self.old.flights }
     {
-        cancel_in(&mut self.lanes, inc);
+        cancel_in(&mut self.lanes, &mut self.shelves, inc);
     }
 
     /// The attempts in the air are lost at a moment: those of a shard, or all where none is named.
     pub fn lose(&mut self, shard: Option<u8>, at: Moment)
         requires { at.0 ≤ LAST_MOMENT }
-        ensures { (calls : List LedgerCall) → Stands self.old calls → Stands self.new (Lost shard at.0 ∷ calls) }
+        ensures stands { (calls : List LedgerCall) → Stands self.old calls → Stands self.new (Lost shard at.0 ∷ calls) }
+        ensures air { self.new.flights ≡ outside shard self.old.flights }
     {
-        lose_in(&mut self.lanes, shard, at);
+        lose_in(&mut self.lanes, &mut self.shelves, shard, at);
         drop_lost(&mut self.flights, shard);
     }
 
@@ -172,6 +201,16 @@ impl Ledger {
         }
     }
 
+    /// Where the entry of an occurrence stands at a moment; None where it has none.
+    pub fn standing(&self, inc: u32, instant: u64, at: Moment) -> Option<Standing>
+        ensures { result ≡ option_map {T = TheFiled} (λ f. standing_of f at.0) (filed_in self.now.lanes inc instant) }
+    {
+        match row_of(&self.lanes, inc, instant) {
+            Some(row) => Some(standing(&row.filed.entry, row.filed.policy, at)),
+            None => None,
+        }
+    }
+
     /// Whether the attempt of this number of an occurrence is in the air.
     pub fn is_live(&self, inc: u32, instant: u64, number: u16) -> bool
         ensures { result ≡ is_live_attempt (filed_in self.now.lanes inc instant) number }
@@ -193,9 +232,10 @@ impl Ledger {
     }
 
     /// Whether these pairs may be entered: they come behind the entries of the incarnation, they rise, and are chosen at
-    /// moments that a window can choose. It is never said of pairs that may not.
+    /// moments that a window can choose.
     pub fn may_enter(&self, inc: u32, pairs: &Pairs) -> bool
-        ensures { result ≡ true → IsEntrance (pairs_in self.now.lanes inc) pairs.now }
+        ensures says { result ≡ true → IsEntrance (pairs_in self.now.lanes inc) pairs.now }
+        ensures all { IsEntrance (pairs_in self.now.lanes inc) pairs.now → result ≡ true }
     {
         may_enter_in(&self.lanes, inc, pairs.as_slice())
     }
@@ -227,7 +267,7 @@ impl Ledger {
         requires { shard < SHARDS }
         ensures { (calls : List LedgerCall) → Stands self.now calls → IsFirstOf (λ i k. answers (Question.ToAct now.0) (filed calls i k)) shard result }
     {
-        first_of(&self.lanes, shard, Question::ToAct { now: now.0 })
+        first_due_of(&self.lanes, &self.shelves, shard, now.0)
     }
 
     /// The first occurrence of a shard, by incarnation and instant, whose entry is live.
@@ -235,7 +275,7 @@ impl Ledger {
         requires { shard < SHARDS }
         ensures { (calls : List LedgerCall) → Stands self.now calls → IsFirstOf (λ i k. answers Question.ToWait (filed calls i k)) shard result }
     {
-        first_of(&self.lanes, shard, Question::ToWait)
+        first_live_of(&self.lanes, &self.flights, shard)
     }
 
     /// How many attempts are in the air, of a shard where one is named. That of a cancelled entry is one.
@@ -243,6 +283,13 @@ impl Ledger {
         ensures { (calls : List LedgerCall) → Stands self.now calls → result ≡ live_in shard (airborne calls) }
     {
         count_in(&self.flights, shard)
+    }
+
+    /// The instant of the last entry of an incarnation.
+    pub fn last_entered(&self, inc: u32) -> Option<u64>
+        ensures { (calls : List LedgerCall) → Stands self.now calls → result ≡ last (instants_of (entries calls inc)) }
+    {
+        last_of(&self.lanes, inc)
     }
 
     /// How many entries of an incarnation are not decided.
@@ -278,6 +325,16 @@ fn counts_of(lanes: &[Lane], now: Moment) -> EntryCounts
     }
 }
 
+fn last_of(lanes: &[Lane], inc: u32) -> Option<u64>
+    ensures { result ≡ last (instants_of (pairs_in lanes.now inc)) }
+{
+    if inc as usize >= lanes.len() {
+        return None;
+    }
+    let lane = &lanes[inc as usize];
+    lane.last_instant()
+}
+
 fn open_of(lanes: &[Lane], inc: u32) -> u64
     ensures { result ≡ open_in (lane_of lanes.now inc).rows }
 {
@@ -301,64 +358,122 @@ fn number_of(lanes: &[Lane], kind: Kind, now: Moment) -> u64
     count
 }
 
-fn reserve_in(lanes: &mut Vec<Lane>, inc: u32, count: u16) -> Result<(), AllocError>
-    requires { length lanes.old.items ≤ 4294967296 }
+fn reserve_in(
+    lanes: &mut Vec<Lane>,
+    shelves: &mut Vec<MinTree>,
+    inc: u32,
+    count: u16,
+) -> Result<(), AllocError>
+    requires few { length lanes.old.items ≤ 4294967296 }
+    requires shelved { AreShelved lanes.old.items shelves.old.items }
+    ensures shelved { AreShelved lanes.new.items shelves.new.items }
     ensures few { length lanes.new.items ≤ 4294967296 }
     ensures rows { RowsAre lanes.old.items lanes.new.items same_rows }
     ensures room { OnOk result ((inc < length lanes.new.items) × (count ≤ (lane_of lanes.new.items inc).room)) }
 {
-    widen(lanes, inc)?;
+    widen(lanes, shelves, inc)?;
     let lane = &mut lanes[inc as usize];
     lane.reserve(count as usize)
 }
 
 /// Makes a lane for each incarnation up to this one.
-fn widen(lanes: &mut Vec<Lane>, inc: u32) -> Result<(), AllocError>
-    requires { length lanes.old.items ≤ 4294967296 }
+fn widen(lanes: &mut Vec<Lane>, shelves: &mut Vec<MinTree>, inc: u32) -> Result<(), AllocError>
+    requires few { length lanes.old.items ≤ 4294967296 }
+    requires shelved { AreShelved lanes.old.items shelves.old.items }
+    ensures shelved { AreShelved lanes.new.items shelves.new.items }
     ensures few { length lanes.new.items ≤ 4294967296 }
     ensures rows { RowsAre lanes.old.items lanes.new.items same_rows }
     ensures wide { OnOk result (inc < length lanes.new.items) }
 {
     let alloc: Global = *lanes.allocator();
+    plant(shelves, alloc)?;
     while lanes.len() <= inc as usize {
-        lanes.push(Lane::new(alloc))?;
+        add_lane(lanes, shelves, alloc)?;
     }
     Ok(())
 }
 
-fn enter_in(lanes: &mut Vec<Lane>, inc: u32, policy: Policy, pairs: &[Pair])
+/// Makes a lane more, with its place on the shelf of its shard.
+fn add_lane(
+    lanes: &mut Vec<Lane>,
+    shelves: &mut Vec<MinTree>,
+    alloc: Global,
+) -> Result<(), AllocError>
+    requires wide { SHARDS ≤ length shelves.old.items }
+    requires shelved { AreShelved lanes.old.items shelves.old.items }
+    ensures shelved { AreShelved lanes.new.items shelves.new.items }
+    ensures wide { SHARDS ≤ length shelves.new.items }
+    ensures rows { RowsAre lanes.old.items lanes.new.items same_rows }
+    ensures few { length lanes.new.items ≤ length lanes.old.items + 1 }
+    ensures more { OnOk result (length lanes.new.items ≡ length lanes.old.items + 1) }
+{
+    let shard = lanes.len() % SHARDS as usize;
+    reserve_place(shelves, shard)?;
+    lanes.push(Lane::new(alloc))?;
+    put_place(shelves, shard);
+    Ok(())
+}
+
+fn enter_in(
+    lanes: &mut Vec<Lane>,
+    shelves: &mut Vec<MinTree>,
+    inc: u32,
+    policy: Policy,
+    pairs: &[Pair],
+)
+    requires shelved { AreShelved lanes.old.items shelves.old.items }
     requires there { inc < length lanes.old.items }
     requires room { length pairs.now ≤ (lane_of lanes.old.items inc).room }
     requires entrance { IsEntrance (pairs_in lanes.old.items inc) pairs.now }
+    ensures shelved { AreShelved lanes.new.items shelves.new.items }
     ensures length { length lanes.new.items ≡ length lanes.old.items }
     ensures rows { RowsAre lanes.old.items lanes.new.items (rows_entered inc policy pairs.now) }
 {
     let lane = &mut lanes[inc as usize];
     lane.enter(policy, pairs);
+    note(shelves, inc, lane.least());
 }
 
-fn cancel_in(lanes: &mut Vec<Lane>, inc: u32)
+fn cancel_in(lanes: &mut Vec<Lane>, shelves: &mut Vec<MinTree>, inc: u32)
+    requires shelved { AreShelved lanes.old.items shelves.old.items }
+    ensures shelved { AreShelved lanes.new.items shelves.new.items }
     ensures length { length lanes.new.items ≡ length lanes.old.items }
     ensures rows { RowsAre lanes.old.items lanes.new.items (rows_cancelled inc) }
 {
     if (inc as usize) < lanes.len() {
         let lane = &mut lanes[inc as usize];
         lane.cancel();
+        note(shelves, inc, lane.least());
     }
 }
 
-fn lose_in(lanes: &mut Vec<Lane>, shard: Option<u8>, at: Moment)
+fn lose_in(lanes: &mut Vec<Lane>, shelves: &mut Vec<MinTree>, shard: Option<u8>, at: Moment)
+    requires shelved { AreShelved lanes.old.items shelves.old.items }
     requires few { length lanes.old.items ≤ 4294967296 }
     requires at { at.0 ≤ LAST_MOMENT }
+    ensures shelved { AreShelved lanes.new.items shelves.new.items }
     ensures length { length lanes.new.items ≡ length lanes.old.items }
     ensures rows { RowsAre lanes.old.items lanes.new.items (rows_lost shard at.0) }
 {
     for place in 0..lanes.len() {
         if is_lost_in(shard, place as u32) {
-            let lane = &mut lanes[place];
-            lane.lose(at);
+            lose_lane(lanes, shelves, place as u32, at);
         }
     }
+}
+
+/// The attempts of an incarnation are lost.
+fn lose_lane(lanes: &mut Vec<Lane>, shelves: &mut Vec<MinTree>, inc: u32, at: Moment)
+    requires shelved { AreShelved lanes.old.items shelves.old.items }
+    requires there { inc < length lanes.old.items }
+    requires at { at.0 ≤ LAST_MOMENT }
+    ensures shelved { AreShelved lanes.new.items shelves.new.items }
+    ensures length { length lanes.new.items ≡ length lanes.old.items }
+    ensures rows { RowsAre lanes.old.items lanes.new.items (rows_lost_at inc at.0) }
+{
+    let lane = &mut lanes[inc as usize];
+    lane.lose(at);
+    note(shelves, inc, lane.least());
 }
 
 /// Whether an incarnation is of the shard, or none is named.
@@ -397,19 +512,6 @@ fn count_in(flights: &[Flight], shard: Option<u8>) -> u64
     count
 }
 
-/// The entry of an occurrence.
-fn row_of(lanes: &[Lane], inc: u32, instant: u64) -> Option<&Row>
-    ensures some { IfSome result (λ row. row_at (lane_of lanes.now inc).rows instant ≡ Some row.now) }
-    ensures small { IfSome result (λ row. IsSmallRow row.now) }
-    ensures none { IfNone result (row_at (lane_of lanes.now inc).rows instant ≡ None) }
-{
-    if inc as usize >= lanes.len() {
-        return None;
-    }
-    let lane = &lanes[inc as usize];
-    lane.get(instant)
-}
-
 fn is_due(row: &Row, at: Moment) -> bool
     requires { IsSmallRow row.now }
     ensures { result ≡ is_due (standing_of row.now.filed at.0) }
@@ -430,7 +532,8 @@ fn is_live(last: Last) -> bool
 }
 
 fn may_enter_in(lanes: &[Lane], inc: u32, pairs: &[Pair]) -> bool
-    ensures { result ≡ true → IsEntrance (pairs_in lanes.now inc) pairs.now }
+    ensures says { result ≡ true → IsEntrance (pairs_in lanes.now inc) pairs.now }
+    ensures all { IsEntrance (pairs_in lanes.now inc) pairs.now → result ≡ true }
 {
     if inc as usize >= lanes.len() {
         return may_follow(&[], pairs);
@@ -440,7 +543,14 @@ fn may_enter_in(lanes: &[Lane], inc: u32, pairs: &[Pair]) -> bool
 }
 
 /// Makes room for an attempt of an occurrence, where that has an entry.
-fn room_in(lanes: &mut Vec<Lane>, inc: u32, instant: u64) -> Result<(), AllocError>
+fn room_in(
+    lanes: &mut Vec<Lane>,
+    shelves: &mut Vec<MinTree>,
+    inc: u32,
+    instant: u64,
+) -> Result<(), AllocError>
+    requires shelved { AreShelved lanes.old.items shelves.old.items }
+    ensures shelved { AreShelved lanes.new.items shelves.new.items }
     ensures length { length lanes.new.items ≡ length lanes.old.items }
     ensures same { Tells lanes.new.items (filed_in lanes.old.items) (pairs_in lanes.old.items) (attempts_in lanes.old.items) }
     ensures room { OnOk result (IsSome (filed_in lanes.new.items inc instant) → 1 ≤ room_at (lane_of lanes.new.items inc).rows instant) }
@@ -449,39 +559,65 @@ fn room_in(lanes: &mut Vec<Lane>, inc: u32, instant: u64) -> Result<(), AllocErr
         return Ok(());
     }
     let lane = &mut lanes[inc as usize];
-    lane.reserve_begin(instant)
+    let made = lane.reserve_begin(instant);
+    note(shelves, inc, lane.least());
+    made
 }
 
-/// The first occurrence of a shard with this answer.
-fn first_of(lanes: &[Lane], shard: u8, question: Question) -> Option<(u32, u64)>
+/// The first occurrence of a shard whose chosen moment has come and whose entry is exhausted or due.
+fn first_due_of(lanes: &[Lane], shelves: &[MinTree], shard: u8, now: u64) -> Option<(u32, u64)>
     requires few { length lanes.now ≤ 4294967296 }
+    requires shelved { AreShelved lanes.now shelves.now }
     requires shard { shard < SHARDS }
-    ensures { IsFirstOf (λ i k. answers question (filed_in lanes.now i k)) shard result }
+    ensures { IsFirstOf (λ i k. answers (Question.ToAct now) (filed_in lanes.now i k)) shard result }
 {
-    let mut inc = shard as usize;
-    while inc < lanes.len() {
-        if let Some(instant) = lanes[inc].first(question) {
-            return Some((inc as u32, instant));
-        }
-        inc += SHARDS as usize;
+    match first_place(shelves, shard, bound_at(now)) {
+        Some(place) => Some(due_in(lanes, place * SHARDS as usize + shard as usize, now)),
+        None => None,
     }
-    None
 }
 
-fn begin_in(lanes: &mut Vec<Lane>, inc: u32, instant: u64, epoch: u64, at: Moment) -> u16
+/// The first entry that something is to be done for, of an incarnation whose number is reached.
+fn due_in(lanes: &[Lane], inc: usize, now: u64) -> (u32, u64)
+    requires few { length lanes.now ≤ 4294967296 }
+    requires there { inc < length lanes.now }
+    requires reached { lane_number (lane_of lanes.now inc).rows ≤ bound_at now }
+    ensures inc { result.0 ≡ inc }
+    ensures first { IsFirstIn (λ k. answers (Question.ToAct now) (filed_in lanes.now inc k)) (Some result.1) }
+{
+    let lane = &lanes[inc];
+    match lane.first_due(now) {
+        Some(instant) => (inc as u32, instant),
+        None => unreachable!(),
+    }
+}
+
+fn begin_in(
+    lanes: &mut Vec<Lane>,
+    shelves: &mut Vec<MinTree>,
+    inc: u32,
+    instant: u64,
+    epoch: u64,
+    at: Moment,
+) -> u16
+    requires shelved { AreShelved lanes.old.items shelves.old.items }
     requires room { IsSome (filed_in lanes.old.items inc instant) → 1 ≤ room_at (lane_of lanes.old.items inc).rows instant }
     requires due { some_pass (λ f. is_due (standing_of f at.0)) (filed_in lanes.old.items inc instant) ≡ true }
     requires at { at.0 ≤ LAST_MOMENT }
+    ensures shelved { AreShelved lanes.new.items shelves.new.items }
     ensures length { length lanes.new.items ≡ length lanes.old.items }
     ensures number { IfSome (filed_in lanes.old.items inc instant) (λ f. result ≡ f.entry.used + 1) }
     ensures changes { ChangesIn lanes.old.items lanes.new.items inc instant (with_begin at.0) (λ before. before ++ begun_attempt result at.0 epoch ∷ []) }
 {
     let lane = &mut lanes[inc as usize];
-    lane.begin(instant, epoch, at)
+    let number = lane.begin(instant, epoch, at);
+    note(shelves, inc, lane.least());
+    number
 }
 
 fn end_in(
     lanes: &mut Vec<Lane>,
+    shelves: &mut Vec<MinTree>,
     inc: u32,
     instant: u64,
     number: u16,
@@ -489,23 +625,35 @@ fn end_in(
     status: u16,
     at: Moment,
 )
-    requires { at.0 ≤ LAST_MOMENT }
+    requires shelved { AreShelved lanes.old.items shelves.old.items }
+    requires at { at.0 ≤ LAST_MOMENT }
+    ensures shelved { AreShelved lanes.new.items shelves.new.items }
     ensures length { length lanes.new.items ≡ length lanes.old.items }
     ensures changes { ChangesIn lanes.old.items lanes.new.items inc instant (with_end verdict at.0) (map (end_attempt number verdict status)) }
 {
     if (inc as usize) < lanes.len() {
         let lane = &mut lanes[inc as usize];
         lane.end(instant, number, verdict, status, at);
+        note(shelves, inc, lane.least());
     }
 }
 
-fn close_in(lanes: &mut Vec<Lane>, inc: u32, instant: u64, reason: Reason)
+fn close_in(
+    lanes: &mut Vec<Lane>,
+    shelves: &mut Vec<MinTree>,
+    inc: u32,
+    instant: u64,
+    reason: Reason,
+)
+    requires shelved { AreShelved lanes.old.items shelves.old.items }
+    ensures shelved { AreShelved lanes.new.items shelves.new.items }
     ensures length { length lanes.new.items ≡ length lanes.old.items }
     ensures changes { ChangesIn lanes.old.items lanes.new.items inc instant (decided_as (outcome_of reason)) (λ before. before) }
 {
     if (inc as usize) < lanes.len() {
         let lane = &mut lanes[inc as usize];
         lane.close(instant, reason);
+        note(shelves, inc, lane.least());
     }
 }
 

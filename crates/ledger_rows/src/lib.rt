@@ -11,6 +11,9 @@ mod lane;
 mod ledger;
 mod question;
 mod row;
+mod shelves;
+mod waiting;
+mod wants;
 
 pub use counts::EntryCounts;
 pub use ledger::Ledger;

@@ -4,6 +4,8 @@
 #[cfg(test)]
 mod kit;
 #[cfg(test)]
+mod late;
+#[cfg(test)]
 mod reads;
 #[cfg(test)]
 mod runs;

@@ -1,6 +1,6 @@
 -- The nodes of the tree: each one that is no leaf is the lesser of its two children.
-use Rattle.min_tree.specs.declared.nodes.TheConstants.{MOST_LEAVES}
-use Rattle.std.specs.Prelude.{◌≡◌, ℕ, zero, suc, ◌+◌, ◌*◌, ◌≤◌, ◌<◌, ◌≢◌, min, List, length, slice_index}
+use Rattle.min_tree.specs.declared.nodes.TheConstants.{ABOVE_ALL, MOST_LEAVES}
+use Rattle.std.specs.Prelude.{◌≡◌, ℕ, zero, suc, ◌+◌, ◌*◌, ◌≤◌, ◌<◌, ◌≢◌, min, List, length, drop, slice_index}
 
 -- how many nodes the n-th level has, counted from the root: none before the first, then 1, 2, 4 and so on
 unfoldable pub row : ℕ → ℕ
@@ -34,8 +34,13 @@ pub record IsSized (tree : List ℕ) (leaves levels : ℕ) : Type 0 where
   pub rows : leaves ≡ row levels
   pub few : leaves ≤ MOST_LEAVES
 
+-- the leaves from this place on are not in use
+abbrev pub IsSpareFrom : List ℕ → ℕ → Type 0
+IsSpareFrom leaves from = (j : ℕ) → from ≤ j → j < length leaves → slice_index leaves j ≡ ABOVE_ALL
+
 -- a tree with so many of its leaves in use
 pub record IsTree (tree : List ℕ) (leaves levels len : ℕ) : Type 0 where
   pub sized : IsSized tree leaves levels
   pub heap : IsHeap tree leaves
   pub fits : len ≤ leaves
+  pub spare : IsSpareFrom (drop leaves tree) len

@@ -9,4 +9,5 @@ mod nodes;
 mod tree;
 mod walk;
 
+pub use nodes::ABOVE_ALL;
 pub use tree::MinTree;

@@ -1,13 +1,16 @@
 //! Writing a leaf, and building a tree.
 ghost use Rattle.std.specs.Prelude.{◌≡◌, ◌+◌, ◌*◌, ◌/◌, ◌≤◌, ◌<◌, length, IfOk, OnOk, slice_set, take, drop};
-ghost use Rattle.min_tree.specs.Heap.{IsHeap, IsHeapBut, IsSized, row};
+ghost use Rattle.min_tree.specs.Heap.{IsHeap, IsHeapBut, IsSized, IsSpareFrom, row};
 
 use std::alloc::{AllocError, Global};
 
 /// The most leaves that a tree may have, so that every node has a place.
 const MOST_LEAVES: usize = 1 << 44;
 
-/// Writes a leaf, and the minima above it.
+/// What stands at a leaf that is not in use, and is the least number of none. No number is above it.
+pub const ABOVE_ALL: u64 = u64::MAX;
+
+/// Writes a leaf, and the minima above it; a leaf that is so already is only read.
 pub fn put(tree: &mut Vec<u64>, leaves: usize, levels: usize, place: usize, value: u64)
     requires sized { IsSized tree.old.items leaves levels }
     requires heap { IsHeap tree.old.items leaves }
@@ -17,6 +20,9 @@ pub fn put(tree: &mut Vec<u64>, leaves: usize, levels: usize, place: usize, valu
     ensures leaves { drop leaves tree.new.items ≡ slice_set (drop leaves tree.old.items) place value }
 {
     let _ = levels;
+    if tree[leaves + place] == value {
+        return;
+    }
     tree[leaves + place] = value;
     lift(tree, leaves, leaves + place);
 }
@@ -60,6 +66,7 @@ pub fn grown(
     ensures heap { IfOk result (λ t. IsHeap t.items (row (levels + 1))) }
     ensures more { OnOk result (leaves < row (levels + 1)) }
     ensures leaves { IfOk result (λ t. take leaves (drop (row (levels + 1)) t.items) ≡ drop leaves tree.now) }
+    ensures spare { IfOk result (λ t. IsSpareFrom (drop (row (levels + 1)) t.items) leaves) }
 {
     if leaves >= MOST_LEAVES / 2 {
         return Err(AllocError);
@@ -76,11 +83,12 @@ fn laid_out(alloc: Global, leaves: &[u64], more: usize) -> Result<Vec<u64>, Allo
     requires few { more ≤ MOST_LEAVES }
     ensures size { IfOk result (λ t. length t.items ≡ 2 * more) }
     ensures leaves { IfOk result (λ t. take (length leaves.now) (drop more t.items) ≡ leaves.now) }
+    ensures spare { IfOk result (λ t. IsSpareFrom (drop more t.items) (length leaves.now)) }
 {
     let mut tree = Vec::with_capacity(alloc, 2 * more)?;
     tree.resize(more, 0)?;
     tree.extend_from_slice(leaves)?;
-    tree.resize(2 * more, 0)?;
+    tree.resize(2 * more, ABOVE_ALL)?;
     Ok(tree)
 }
 

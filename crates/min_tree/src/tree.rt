@@ -1,7 +1,7 @@
 ghost use Rattle.std.specs.Prelude.{◌≡◌, ◌+◌, ◌≤◌, ◌<◌, [], ◌∷◌, ◌++◌, length, slice_set, slice_index, IsOk, OnOk, IfSome, IfNone};
-ghost use Rattle.min_tree.specs.Search.{IsFirstAtMost, AllAbove};
+ghost use Rattle.min_tree.specs.Search.{IsFirstAtMost, AllAbove, least};
 
-use crate::nodes::{grown, next_leaves, put};
+use crate::nodes::{ABOVE_ALL, grown, next_leaves, put};
 use crate::walk::first_from;
 use std::alloc::{AllocError, Global};
 use std::marker::Model;
@@ -62,6 +62,31 @@ impl MinTree {
         if self.len < self.leaves {
             return Ok(());
         }
+        self.grow()
+    }
+
+    /// Makes room for so many more numbers. Where memory is wanted the list is as before.
+    pub fn reserve_many(&mut self, count: usize) -> Result<(), AllocError>
+        ensures values { self.new.values ≡ self.old.values }
+        ensures kept { self.old.room ≤ self.new.room }
+        ensures room { OnOk result (count ≤ self.new.room) }
+    {
+        widen(self, count)
+    }
+
+    /// How many more numbers there is room for.
+    fn spare(&self) -> usize
+        ensures { result ≡ self.now.room }
+    {
+        self.leaves - self.len
+    }
+
+    /// Makes the tree one level higher.
+    fn grow(&mut self) -> Result<(), AllocError>
+        ensures values { self.new.values ≡ self.old.values }
+        ensures kept { self.old.room ≤ self.new.room }
+        ensures more { OnOk result (self.old.room < self.new.room) }
+    {
         let alloc: Global = *self.tree.allocator();
         self.tree = grown(&self.tree, self.leaves, self.levels, alloc)?;
         self.leaves = next_leaves(self.leaves, self.levels);
@@ -96,6 +121,16 @@ impl MinTree {
         self.tree[self.leaves + place]
     }
 
+    /// The least number, `ABOVE_ALL` where there is none.
+    pub fn least(&self) -> u64
+        ensures { result ≡ least self.now.values }
+    {
+        if self.leaves == 0 {
+            return ABOVE_ALL;
+        }
+        self.tree[1]
+    }
+
     /// The first place, at or behind one, whose number is at most a bound.
     pub fn first_at_most(&self, from: usize, bound: u64) -> Option<usize>
         ensures some { IfSome result (IsFirstAtMost self.now.values from bound) }
@@ -109,6 +144,18 @@ impl MinTree {
             None => None,
         }
     }
+}
+
+/// Makes a tree higher until there is room for so many more numbers.
+fn widen(tree: &mut MinTree, count: usize) -> Result<(), AllocError>
+    ensures values { tree.new.values ≡ tree.old.values }
+    ensures kept { tree.old.room ≤ tree.new.room }
+    ensures room { OnOk result (count ≤ tree.new.room) }
+{
+    while tree.spare() < count {
+        tree.grow()?;
+    }
+    Ok(())
 }
 
 /// The place, where it is one of so many.

@@ -1,4 +1,4 @@
-use min_tree::MinTree;
+use min_tree::{ABOVE_ALL, MinTree};
 use std::alloc::Global;
 use std::test::Fail;
 
@@ -41,5 +41,27 @@ fn changed_number_is_found(rt: HostRuntime) -> Result<(), Fail> {
         assert_eq!(rt; tree.get(4), 6);
     }
     assert_eq!(rt; tree.first_at_most(0, 10), Some(4));
+    Ok(())
+}
+
+/// The least number of a tree of these, and once the number at a place is another.
+fn least_of(alloc: Global, numbers: &[u64], place: usize, number: u64) -> Result<(u64, u64), Fail> {
+    let mut tree = tree_of(alloc, numbers)?;
+    let before = tree.least();
+    if place < tree.len() {
+        tree.set(place, number);
+    }
+    Ok((before, tree.least()))
+}
+
+#[test]
+fn least_number(rt: HostRuntime) -> Result<(), Fail> {
+    assert_eq!(rt; least_of(rt.alloc(), &[9, 7, 8, 3, 7], 3, 10)?, (3, 7));
+    Ok(())
+}
+
+#[test]
+fn no_least_number(rt: HostRuntime) -> Result<(), Fail> {
+    assert_eq!(rt; least_of(rt.alloc(), &[], 0, 1)?, (ABOVE_ALL, ABOVE_ALL));
     Ok(())
 }

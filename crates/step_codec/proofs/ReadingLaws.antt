@@ -81,11 +81,16 @@ reading_takes (tag ∷ more) cs fits e =
 
 -- ---- what a reader answers
 
--- what is read is valid, and its payload is what was read
-pub read_step : (p : List ℕ) (result : Result Step StepFault) → IsBytes p → ReadsWhole cells result (reading p) → IfOk result IsExact → IfOk result (λ s. IsValid s × (p ≡ payload_of s))
+-- what is read is valid
+pub read_valid : (p : List ℕ) (result : Result Step StepFault) → IsBytes p → ReadsWhole cells result (reading p) → IfOk result IsExact → IfOk result IsValid
+read_valid p (Ok s) fits reads exact = fits_valid s (reading_takes p (cells s) fits reads).1 exact
+read_valid p (Err fault) fits reads exact = tt
+
+-- its payload is what was read
+pub read_payload : (p : List ℕ) (result : Result Step StepFault) → IsBytes p → ReadsWhole cells result (reading p) → IfOk result (λ s. p ≡ payload_of s)
 unfolding payload_of
-read_step p (Ok s) fits reads exact = let t = reading_takes p (cells s) fits reads in (fits_valid s t.1 exact, t.0)
-read_step p (Err fault) fits reads exact = tt
+read_payload p (Ok s) fits reads = (reading_takes p (cells s) fits reads).0
+read_payload p (Err fault) fits reads = tt
 
 -- the payload of a valid step is read as its cells
 pub reading_valid : (s : Step) → IsValid s → reading (payload_of s) ≡ Ok (cells s)
@@ -128,7 +133,3 @@ first_told p fault (Err faults.Short) first reads = let same : Some faults.Short
 first_told p fault (Err (faults.BadTag at)) first reads = let same : Some (faults.BadTag at) ≡ Some fault = sym (ap fault_in reads) ∙ first in inl (ap (λ (f : StepFault). Err f) (cc same))
 first_told p fault (Err (faults.BadField at)) first reads = let same : Some (faults.BadField at) ≡ Some fault = sym (ap fault_in reads) ∙ first in inl (ap (λ (f : StepFault). Err f) (cc same))
 first_told p fault (Err (faults.Long at)) first reads = let same : Some (faults.Long at) ≡ Some fault = sym (ap fault_in reads) ∙ first in inl (ap (λ (f : StepFault). Err f) (cc same))
-
-pub read_valid : (p : List ℕ) (result : Result Step StepFault) → IfOk result (λ s. IsValid s × (p ≡ payload_of s)) → IfOk result IsValid
-read_valid p (Ok s) h = h.0
-read_valid p (Err fault) h = tt

@@ -1,6 +1,8 @@
--- The cells of the three parts in which a content is read.
+-- The cells of the three parts in which a content is read, and the steps that are written by their fields alone.
 use Rattle.std.specs.Prelude.{◌≤◌, List, [], ◌∷◌, length}
 use Rattle.sched_plain.specs.declared.schedule.Schedule.{Schedule}
+use Rattle.sched_plain.specs.declared.step.Step.{Step}
+use Rattle.sched_plain.specs.declared.step.Step.TheVariants as steps
 use Rattle.step_codec.specs.Cells.{One, Two, Four}
 use Rattle.step_codec.specs.declared.content.Texts.{Texts}
 use Rattle.step_codec.specs.declared.content.Timing.{Timing}
@@ -40,3 +42,11 @@ pub record HasRoom (c : Schedule) : Type 0 where
   pub role : length c.role ≤ 6400
   pub queue : length (or_empty c.queue) ≤ 6400
   pub input : length (or_empty c.input) ≤ 65_536
+
+-- a step that speaks of a shard as its worker holds it, or of an attempt
+abbrev pub IsOfFields : Step → Type 0
+IsOfFields (steps.Lease at shard worker epoch until) = Unit {0}
+IsOfFields (steps.Release at shard worker epoch) = Unit {0}
+IsOfFields (steps.Begin at inc instant number epoch) = Unit {0}
+IsOfFields (steps.End at inc instant number verdict status) = Unit {0}
+IsOfFields step = ⊥

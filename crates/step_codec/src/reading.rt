@@ -16,8 +16,10 @@ use std::alloc::Global;
 /// Memory is taken only for the texts and the list of the step. Fails with the first fault from the
 /// first byte on, at its place; [`StepFault::OutOfMemory`] may come in place of any other answer.
 pub fn read_step(alloc: Global, payload: &[u8]) -> Result<Step, StepFault>
-    // What is read is a valid step, and the payload is its own.
-    ensures step { IfOk result (λ step. IsValid step × (payload.now ≡ payload_of step)) }
+    // What is read is a valid step.
+    ensures valid { IfOk result IsValid }
+    // The payload is its own.
+    ensures payload { IfOk result (λ step. payload.now ≡ payload_of step) }
     // The payload of a valid step is read as that step.
     ensures back { (step : Step) → IsValid step → payload.now ≡ payload_of step → Answers result (Ok step) }
     // Any other payload has a first fault, which is told.

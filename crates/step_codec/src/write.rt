@@ -2,6 +2,7 @@
 ghost use Rattle.std.specs.Prelude.{◌≡◌, ◌≤◌, ◌<◌, ◌+◌, ◌*◌, ◌++◌, ◌∷◌, [], length};
 ghost use Rattle.std.specs.List.{All};
 ghost use Rattle.step_codec.specs.Cells.{Eight, Four, Number, One, Two, Words, spelled};
+ghost use Rattle.step_codec.specs.Parts.{IsOfFields};
 ghost use Rattle.step_codec.specs.Payload.{cells, code, pair_cells, reason_code, verdict_code, write_cells};
 ghost use Rattle.sched_plain.specs.Validity.{IsPair, IsValid, IsWrite};
 ghost use Rattle.sched_plain.specs.declared.step.Step.TheVariants.{Begin, Close, Complete, End, Lease, Swept};
@@ -203,18 +204,14 @@ fn put_swept(into: &mut FrameBuf, at: Moment, shard: u8)
     into.put_8(shard);
 }
 
-/// The cells of a step.
-pub(crate) fn put_step(into: &mut FrameBuf, step: &Step)
-    requires valid { IsValid step.now }
+/// The cells of a step that speaks of a shard as its worker holds it, or of an attempt.
+fn put_fields(into: &mut FrameBuf, step: &Step)
+    requires kind { IsOfFields step.now }
     requires room { 131_000 ≤ into.old.room }
     ensures bytes { into.new.bytes ≡ into.old.bytes ++ spelled (cells step.now) }
     ensures room { into.old.room ≤ into.new.room + 131_000 }
 {
     match step {
-        Step::Boot { at } => put_head(into, 1, *at),
-        Step::Zone { at, name, bytes } => put_zone(into, *at, name, bytes.as_bytes()),
-        Step::Change { at, write } => put_change(into, *at, write),
-        Step::Enter { at, inc, pairs } => put_enter(into, *at, *inc, pairs.as_slice()),
         Step::Lease {
             at,
             shard,
@@ -243,6 +240,22 @@ pub(crate) fn put_step(into: &mut FrameBuf, step: &Step)
             verdict,
             status,
         } => put_end(into, *at, *inc, *instant, *number, *verdict, *status),
+        _ => unreachable!(),
+    }
+}
+
+/// The cells of a step.
+pub(crate) fn put_step(into: &mut FrameBuf, step: &Step)
+    requires valid { IsValid step.now }
+    requires room { 131_000 ≤ into.old.room }
+    ensures bytes { into.new.bytes ≡ into.old.bytes ++ spelled (cells step.now) }
+    ensures room { into.old.room ≤ into.new.room + 131_000 }
+{
+    match step {
+        Step::Boot { at } => put_head(into, 1, *at),
+        Step::Zone { at, name, bytes } => put_zone(into, *at, name, bytes.as_bytes()),
+        Step::Change { at, write } => put_change(into, *at, write),
+        Step::Enter { at, inc, pairs } => put_enter(into, *at, *inc, pairs.as_slice()),
         Step::Close {
             at,
             inc,
@@ -251,5 +264,9 @@ pub(crate) fn put_step(into: &mut FrameBuf, step: &Step)
         } => put_close(into, *at, *inc, *instant, *reason),
         Step::Complete { at, inc } => put_complete(into, *at, *inc),
         Step::Swept { at, shard } => put_swept(into, *at, *shard),
+        Step::Lease { .. } => put_fields(into, step),
+        Step::Release { .. } => put_fields(into, step),
+        Step::Begin { .. } => put_fields(into, step),
+        Step::End { .. } => put_fields(into, step),
     }
 }

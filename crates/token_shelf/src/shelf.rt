@@ -1,4 +1,5 @@
 ghost use Rattle.std.specs.Prelude.{◌≡◌, ◌+◌, ◌≤◌, ◌++◌, List, [], None, Some, IsOk, OnOk};
+ghost use Rattle.std.specs.Option.{option_map};
 ghost use Rattle.sched_plain.specs.Tokens.{Kept, kept_under, kept_by};
 ghost use Rattle.token_shelf.specs.Answers.{IsAnswer};
 ghost use Rattle.token_shelf.specs.Shelves.{Keeps, shown};
@@ -50,6 +51,17 @@ impl Shelf {
         match self.writes.get(token) {
             None => TokenAnswer::New,
             Some(kept) => answer_of(token, kept, write),
+        }
+    }
+
+    /// The place of the step that kept a token, counted from 1; None where no step did.
+    pub fn place(&self, token: &Token) -> Option<u64>
+        ensures place { result ≡ option_map {T = Kept} (λ k. k.place) (kept_under self.now.kept token.now) }
+        ensures stands { (kept : List Kept) → Keeps self.now kept → result ≡ option_map {T = Kept} (λ k. k.place) (kept_under kept token.now) }
+    {
+        match self.writes.get(token) {
+            Some(kept) => Some(kept.step),
+            None => None,
         }
     }
 

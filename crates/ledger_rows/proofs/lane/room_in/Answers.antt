@@ -1,6 +1,8 @@
-use Rattle.std.proofs.Common.{◌≤◌, Option, sym, subst}
+use Rattle.std.proofs.Common.{◌≤◌, Option, sym, ap, ◌∙◌, subst}
 use Rattle.plain_words.proofs.Options.{on_ok}
+use Rattle.std.proofs.Math.Seq.{map-set_same}
 use Rattle.ledger_rows.specs.declared.row.Row.{Row}
+use Rattle.ledger_rows.specs.Numbers.{wants}
 use Rattle.ledger_rows.specs.Rows.{room_in_row}
 use Rattle.ledger_rows.proofs.Lookups.{op_done, same_mild, set_found}
 use Rattle.ledger_rows.proofs.lane.room_in.Goals as goal
@@ -22,3 +24,8 @@ returns-in-Some-clause-room c =
     (sym (set_found c.args.rows.now.items c.deref.result.now c.args.instant c.in-Some.place c.index_mut.result.now c.reserve.new.row
     c.deref.ensures.value c.in-Some.ensures.some c.index_mut.ensures.value c.reserve.ensures.instant)) room)
     c.reserve.ensures.room
+
+pub returns-in-Some-clause-numbers : goal.returns-in-Some-clause-numbers
+returns-in-Some-clause-numbers c =
+    map-set_same {A = Row} (λ row. wants row.filed) c.args.rows.now.items c.in-Some.place c.reserve.new.row c.index_mut.result.now
+    (ap wants (c.reserve.ensures.filed ∙ ap {A = Row} (λ r. r.filed) c.index_mut.ensures.value))

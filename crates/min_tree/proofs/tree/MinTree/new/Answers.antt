@@ -1,4 +1,4 @@
-use Rattle.std.proofs.Common.{◌≡◌, ℕ, ◌≤◌, ◌<◌, List, length, ap, arith, sym}
+use Rattle.std.proofs.Common.{◌≡◌, ℕ, ◌≤◌, ◌<◌, List, length, drop, length-drop, ap, arith, sym}
 use Rattle.min_tree.proofs.HeapLemmas.{row_none}
 use Rattle.min_tree.proofs.tree.MinTree.new.Goals as goal
 
@@ -9,4 +9,5 @@ invariant_of-result c =
       sized = record { size = none; rows = sym row_none; few = omega arith };
       heap = λ (i : ℕ) (some : 1 ≤ i) (lt : i < 0). absurd (omega (arith, some, lt));
       fits = omega arith;
+      spare = λ (j : ℕ) (le : 0 ≤ j) (lt : j < length (drop 0 c.new.result.items)). absurd (let l = length-drop 0 c.new.result.items in omega (arith, lt, l, none));
     }
