@@ -1,0 +1,3 @@
+pub mod LetterRoom
+pub mod Finishing
+pub mod Ending

@@ -1,0 +1,6 @@
+pub mod ContentLemmas
+pub mod TouchedLemmas
+pub mod WorkLemmas
+pub mod ChangeLemmas
+pub mod EnterLemmas
+pub mod BeginningLemmas

@@ -1,0 +1,3 @@
+pub mod SoundLemmas
+pub mod RuleLemmas
+pub mod StepLemmas

@@ -1,0 +1,4 @@
+pub mod Dates
+pub mod NextInstants
+pub mod NextLaws
+pub mod StepLaws
