@@ -1,11 +1,2 @@
-pub mod BirthLemmas
-pub mod SmallLemmas
-pub mod OpenLemmas
-pub mod WorkLemmas
-pub mod ChangeLemmas
-pub mod BookLemmas
-mod RuleLemmas
-mod PrefixLemmas
-mod TrackLemmas
-mod RoomLemmas
-mod MadeLemmas
+pub mod RoomLemmas
+pub mod SoundLemmas

@@ -1,42 +1,51 @@
--- What contracts see of the book that keeps its steps: these, the oldest first, and room for more.
-use Rattle.std.specs.Prelude.{◌≡◌, ℕ, ◌+◌, ◌≤◌, ◌==◌, ◌&&◌, if◌then◌else◌, List, [], ◌∷◌, length}
+-- What contracts see of a book, for which histories it stands, and which step may follow them.
+use Rattle.std.specs.Prelude.{◌+◌, ◌≤◌, ◌^◌, Option}
 use Rattle.sched_plain.specs.declared.step.Step.{Step}
-use Rattle.sched_plain.specs.declared.step.Step.TheVariants as steps
-use Rattle.sched_plain.specs.History.{History, beginning, based, ◌upon◌, grown}
+use Rattle.sched_plain.specs.History.{History}
+use Rattle.sched_plain.specs.Legal.{MayFollow}
+use Rattle.sched_plain.specs.Validity.{IsValid, AllValid}
+use Rattle.book_parts.specs.Told.{Told}
+use Rattle.book_parts.specs.Stands.{Stands as PartsStand, calendar}
+use Rattle.book_writes.specs.Keeping.{Keeper}
+use Rattle.book_core.specs.Room.{weight, HasRoom as PartsHaveRoom}
 
--- the history of these steps
-abbrev pub history_of : List Step → History
-history_of all = grown beginning all
+-- the parts, and the token with the copy of its write that lie at hand
+pub record Booked : Type 0 where
+  pub parts : Told
+  pub spare : Option Keeper
 
--- an attempt: incarnation, instant and number
-pub record Flight : Type 0 where
-  pub inc : ℕ
-  pub instant : ℕ
-  pub number : ℕ
+-- the parts stand for a history of valid steps
+pub record StandFor (b : Told) (h : History) : Type 0 where
+  pub parts : PartsStand b h
+  pub valid : AllValid h
 
--- the attempts but for the first one that is this
-abbrev pub landed : ℕ → ℕ → ℕ → List Flight → List Flight
-landed inc instant number [] = []
-landed inc instant number (flight ∷ more) =
-    if inc == flight.inc && instant == flight.instant && number == flight.number then more else flight ∷ landed inc instant number more
+-- the step may follow whatever these parts stand for
+abbrev pub MayTake : Told → Step → Type 0
+MayTake b s = (h : History) → StandFor b h → MayFollow calendar h s
 
--- the attempts that were begun and have no End yet, lost ones among them
-abbrev pub airborne : History → List Flight
-airborne beginning = []
-airborne (based b kept) = airborne kept
-airborne (steps.Begin at inc instant number epoch upon h) = record { inc = inc; instant = instant; number = number } ∷ airborne h
-airborne (steps.End at inc instant number verdict status upon h) = landed inc instant number (airborne h)
-airborne (s upon h) = airborne h
+-- some history has brought the parts about
+pub record Stood (b : Told) : Type 0 where
+  pub history : History
+  pub stands : StandFor b history
 
--- the steps of a book, and room for more of them
-pub record State : Type 0 where
-  pub steps : List Step
-  pub room : ℕ
+-- one has, and each attempt in the air has its place among the steps that can be counted
+pub record IsSound (b : Told) : Type 0 where
+  pub stood : Stood b
+  pub light : weight b ≤ 2 ^ 62 + 1
 
--- the book stands for the history of its steps
-abbrev pub Stands : State → History → Type 0
-Stands b h = history_of b.steps ≡ h
+-- the parts can take a step: it is valid, may follow, and has room
+pub record CanTake (b : Told) (spare : Option Keeper) (s : Step) : Type 0 where
+  pub valid : IsValid s
+  pub sound : IsSound b
+  pub may : MayTake b s
+  pub room : PartsHaveRoom b spare s
 
--- room for the step, and for the End of each attempt that has none behind it
-abbrev pub HasRoom : State → Step → Type 0
-HasRoom b s = 1 + length (airborne (s upon history_of b.steps)) ≤ b.room
+-- the same words of a book
+abbrev pub Stands : Booked → History → Type 0
+Stands book h = StandFor book.parts h
+
+abbrev pub May : Booked → Step → Type 0
+May book s = MayTake book.parts s
+
+abbrev pub HasRoom : Booked → Step → Type 0
+HasRoom book s = PartsHaveRoom book.parts book.spare s

@@ -1,124 +1,150 @@
-ghost use Rattle.std.specs.Prelude.{◌≡◌, ◌≤◌, ◌<◌, ◌+◌, ◌-◌, [], ◌∷◌, ◌++◌, IfOk, vec_len, vec_capacity};
-ghost use Rattle.std.specs.Option.{option_to_list};
-ghost use Rattle.sched_plain.specs.History.{beginning};
+//! The machine of indexes.
+ghost use Rattle.std.specs.Prelude.{◌≡◌, ℕ, List, IfOk};
+ghost use Rattle.std.specs.Option.{option_map};
+ghost use Rattle.plain_words.specs.Lists.{nth};
+ghost use Rattle.sched_plain.specs.declared.row.Row.{Row};
+ghost use Rattle.sched_plain.specs.History.{History, beginning};
+ghost use Rattle.sched_plain.specs.Changes.{changes_of};
+ghost use Rattle.sched_plain.specs.Rows.{rows_of};
+ghost use Rattle.book_parts.specs.Stands.{Stands as PartsStand};
+ghost use Rattle.step_machine.specs.Names.{row_names};
+ghost use Rattle.book_core.specs.State.{Stands};
 
-use crate::creations::{content_at, names_at};
-use crate::machine::{LegalFault, Machine};
-use crate::rules::broken_rule;
-use crate::scan::{filed_at, first_unentered, shard_holder};
-use crate::work::next_work;
-use sched_plain::{Entry, Holder, Moment, Name, Schedule, Step, Work};
+use crate::room::reserve;
+use crate::taking::take;
+use book_counts::counts;
+use book_parts::{LegalFault, Parts};
+use live_attempts::live_attempts_are_few;
+use plain_words::Items;
+use read_replies::reply;
+use sched_calls::{Read, Refusal, Reply};
+use sched_plain::{Counts, Entry, Holder, Moment, Name, Schedule, Step, Token, Work, Write};
 use std::alloc::{AllocError, Global};
 use std::marker::Model;
+use step_machine::Machine;
+use write_plans::{Plan, plan_write};
 
-/// The plain machine: it keeps its steps, and looks through them for each answer.
+/// The machine made of indexes: it holds what it reads of the history, part by part, and no step.
 #[derive(Drop)]
 pub struct Book {
-    steps: Vec<Step>,
+    alloc: Global,
+    parts: Parts,
+    spare: Option<(Token, Write)>,
 }
 
 impl Model for Book {
-    ghost use Rattle.std.specs.Prelude.{◌-◌, ◌≤◌, length, vec_len, vec_capacity};
-    ghost use Rattle.book_core.specs.Form.{IsSound};
-    ghost use Rattle.book_core.specs.State.{State, history_of, airborne};
+    ghost use Rattle.book_core.specs.State.{Booked, IsSound};
 
-    ghost Value = { State };
+    ghost Value = { Booked };
 
-    ghost view = { λ b. record { steps = b.steps.items; room = vec_capacity b.steps - vec_len b.steps } };
+    ghost view = { λ b. record { parts = b.parts; spare = b.spare } };
 
-    ghost invariant = { λ b. IsSound (history_of b.steps.items) × (length (airborne (history_of b.steps.items)) ≤ vec_capacity b.steps - vec_len b.steps) };
+    ghost invariant = { λ b. IsSound b.parts };
 }
 
 impl Book {
-    ghost use Rattle.book_core.specs.State.{Stands};
-
-    /// The book of the empty history. It takes no memory yet.
+    /// The book of the empty history.
     pub fn new(alloc: Global) -> Result<Book, AllocError>
         ensures { IfOk result (λ book. Stands book beginning) }
     {
         Ok(Book {
-            steps: Vec::new(alloc),
+            alloc,
+            parts: Parts::new(alloc)?,
+            spare: None,
         })
     }
 }
 
-/// Adds a step at the end, where there is room for it.
-fn put_last(steps: &mut Vec<Step>, step: Step)
-    requires { vec_len steps.old < vec_capacity steps.old }
-    ensures steps { steps.new.items ≡ steps.old.items ++ step ∷ [] }
-    ensures room { vec_capacity steps.old - vec_len steps.old ≤ vec_capacity steps.new - vec_len steps.new + 1 }
+/// Group and name of an incarnation.
+fn named(parts: &Parts, inc: u32) -> Option<(&Name, &Name)>
+    ensures { (h : History) → PartsStand parts.now h → option_map {U = List ℕ × List ℕ} (λ names. (names.0.now, names.1.now)) result ≡ option_map {T = Row} row_names (nth (rows_of (changes_of h)) inc) }
 {
-    let _ = steps.push(step);
-}
-
-/// The instant as a list of its own.
-fn collected(alloc: Global, instant: Option<u64>) -> Result<Vec<u64>, AllocError>
-    ensures { IfOk result (λ instants. instants.items ≡ option_to_list instant) }
-{
-    let mut instants = Vec::new(alloc);
-    if let Some(instant) = instant {
-        instants.push(instant)?;
+    match parts.rows.row(inc) {
+        Some(row) => Some((row.group(), row.name())),
+        None => None,
     }
-    Ok(instants)
 }
 
 impl Machine for Book {
-    ghost use Rattle.sched_plain.specs.Legal.{why};
-    ghost use Rattle.book_core.specs.InUse.{calendar};
-    ghost use Rattle.book_core.specs.State.{Stands, HasRoom, history_of};
+    ghost use Rattle.book_core.specs.State.{Stands, May, HasRoom};
 
     ghost stands = { Stands };
 
-    ghost broken = { λ book s. why calendar (history_of book.steps) s };
+    ghost may = { May };
 
     ghost has_room = { HasRoom };
 
     fn legal(&self, step: &Step) -> Result<(), LegalFault> {
-        match broken_rule(self.steps.as_slice(), step) {
-            Some(why) => Err(LegalFault::Why(why)),
-            None => Ok(()),
-        }
+        self.parts.legal(self.alloc, step)
     }
 
     fn reserve(&mut self, step: &Step) -> Result<(), AllocError> {
-        let _ = step;
-        let more = self.steps.as_slice().len() + 2;
-        self.steps.reserve(more)
+        reserve(&mut self.parts, &mut self.spare, step)
     }
 
     fn apply(&mut self, step: Step) {
-        put_last(&mut self.steps, step);
+        live_attempts_are_few();
+        let spare = self.spare.take();
+        take(&mut self.parts, spare, step);
+    }
+
+    fn moment(&self) -> Moment {
+        self.parts.moment()
     }
 
     fn length(&self) -> u64 {
-        self.steps.as_slice().len() as u64
+        self.parts.length()
     }
 
     fn next_work(&self, shard: u8, now: Moment) -> Work {
-        next_work(self.steps.as_slice(), shard, now.0)
+        self.parts.next_work(shard, now)
     }
 
     fn holder(&self, shard: u8) -> Holder {
-        shard_holder(self.steps.as_slice(), shard)
+        self.parts.holder(shard)
+    }
+
+    fn last_swept(&self, shard: u8) -> Option<Moment> {
+        self.parts.last_swept(shard)
     }
 
     fn entry(&self, inc: u32, instant: u64) -> Option<Entry> {
-        match filed_at(self.steps.as_slice(), inc, instant) {
-            Some(filed) => Some(filed.entry),
-            None => None,
-        }
+        self.parts.entry(inc, instant)
+    }
+
+    fn live(&self, shard: Option<u8>) -> u64 {
+        self.parts.live(shard)
     }
 
     fn content(&self, inc: u32, instant: u64) -> Option<&Schedule> {
-        content_at(self.steps.as_slice(), inc, instant)
+        self.parts.content(inc, instant)
     }
 
     fn named(&self, inc: u32) -> Option<(&Name, &Name)> {
-        names_at(self.steps.as_slice(), inc)
+        named(&self.parts, inc)
     }
 
-    fn wanted(&self, inc: u32, now: Moment) -> Result<Vec<u64>, AllocError> {
-        let alloc: Global = *self.steps.allocator();
-        collected(alloc, first_unentered(self.steps.as_slice(), inc, now.0))
+    fn wanted(&self, inc: u32, now: Moment) -> Result<Items<u64>, AllocError> {
+        self.parts.wanted(self.alloc, inc, now)
     }
+
+    fn plan_write(&self, write: &Write, now: Moment) -> Result<Plan, AllocError> {
+        plan_write(&self.parts, self.alloc, write, now)
+    }
+
+    fn reply(&self, read: &Read) -> Result<Result<Reply, Refusal>, AllocError> {
+        reply(&self.parts, self.alloc, read)
+    }
+
+    fn counts(&self, now: Moment) -> Counts {
+        counts(&self.parts, now)
+    }
+
+    ghost lawful = { λ m h s stands may. may h stands };
+
+    ghost follows = { λ m s may. may };
+
+    ghost legal_history = { λ m h stands. stands.parts.legal };
+
+    ghost valid_history = { λ m h stands. stands.valid };
 }

@@ -1,20 +1,11 @@
-//! The machine of steps: it judges whether a step may follow what happened, takes it, and answers what
-//! the history says: the next work of a shard, who holds it, what is filed for an occurrence. `Machine`
-//! is what each body promises; `Book` is the plain one, which keeps its steps and looks through them.
-//! It takes the steps of the first forms alone (`is_first_form`).
+//! The machine of indexes: which step may follow what happened, what it makes of the book, and what the history says.
+//!
+//! `Book` is made of the parts that `book_parts` judges by and the crates beside it change; it holds no list of steps, since
+//! each part stands for what it reads of the history. What a machine promises is said by `step_machine::Machine`.
 #![tactic(auto)]
 
 mod book;
-mod creations;
-mod form;
-mod instants;
-mod machine;
-mod rules;
-mod scan;
-mod standing;
-mod track;
-mod work;
+mod room;
+mod taking;
 
 pub use book::Book;
-pub use form::is_first_form;
-pub use machine::{LegalFault, Machine};

@@ -1,13 +1,17 @@
-//! Runs of the book through its trait: a shard taken, swept and given back, and a schedule from its
-//! creation to the end of its attempt. The steps are built so that they are valid and of the first forms.
+//! Tests of the machine of indexes. Each is a page of steps and questions with the answers that the rules ask for, which a new
+//! book must give back as it stands: whole sweeps in `worked`, steps that may not follow in `broken`, what occurs in
+//! `occurring`, plans of writes in `planning`, and replies to reads in `reading`.
 #![tactic(auto)]
 
 #[cfg(test)]
-mod attempts;
-mod contents;
+mod broken;
 #[cfg(test)]
-mod leases;
-mod steps;
-
-pub use contents::content_of;
-pub use steps::{creation, entering, offered};
+mod occurring;
+#[cfg(test)]
+mod planning;
+#[cfg(test)]
+mod playing;
+#[cfg(test)]
+mod reading;
+#[cfg(test)]
+mod worked;

@@ -55,6 +55,7 @@ fn post_final(
 }
 
 /// An attempt in the air ends with a verdict and a status, 0 where no reply could be read.
+/// Its place among the steps was kept since it began, so that it is taken behind the last of any other kind.
 pub fn end(
     parts: &mut Parts,
     at: Moment,
@@ -66,7 +67,7 @@ pub fn end(
 )
     requires forward { parts.old.moment ≤ at.0 }
     requires last { at.0 ≤ LAST_MOMENT }
-    requires steps { parts.old.steps < 2 ^ 62 }
+    requires steps { parts.old.steps ≤ 2 ^ 62 }
     requires live { is_live_attempt (filed_in parts.old.ledger.lanes inc instant) number ≡ true }
     requires aloft { is_aloft parts.old.ledger.flights inc instant ≡ true }
     requires low { 1 ≤ inc }

@@ -12,7 +12,7 @@ use sched_plain::{Letter, Outcome, Text};
 use sched_rows::Rows;
 
 /// The queue that the content of an occurrence names.
-fn queue_at(rows: &Rows, inc: u32, instant: u64) -> Option<&Text>
+pub fn queue_at(rows: &Rows, inc: u32, instant: u64) -> Option<&Text>
     ensures { option_map (λ queue. queue.now) result ≡ queue_of (content_at rows.now.rows inc instant) }
 {
     match rows.revision_at(inc, instant) {

@@ -4,3 +4,4 @@ pub mod WorkLemmas
 pub mod ChangeLemmas
 pub mod EnterLemmas
 pub mod BeginningLemmas
+pub mod PostLemmas

@@ -30,7 +30,7 @@ pub fn is_utc(name: &ZoneName) -> bool
 }
 
 /// The zone that a write's content names.
-fn zone_of(write: &Write) -> Option<&ZoneName>
+pub fn zone_of(write: &Write) -> Option<&ZoneName>
     ensures { option_map (λ zone. zone.now) result ≡ zone_of write.now }
 {
     match write {
@@ -52,7 +52,7 @@ fn is_zone_unknown(zones: &ZoneShelf, write: &Write) -> bool
 }
 
 /// The token of a write.
-fn token_of(write: &Write) -> Option<&Token>
+pub fn token_of(write: &Write) -> Option<&Token>
     ensures { option_map (λ token. token.now) result ≡ token_of write.now }
 {
     match write {
@@ -75,7 +75,7 @@ fn kept_place(shelf: &Shelf, write: &Write) -> Option<u64>
 }
 
 /// The first fault of a write over the schedules and groups that are there.
-fn fault_of(rows: &Rows, write: &Write) -> Option<RowFault>
+pub fn fault_of(rows: &Rows, write: &Write) -> Option<RowFault>
     ensures { result ≡ row_fault rows.now.rows rows.now.groups write.now }
 {
     match rows.check(write) {

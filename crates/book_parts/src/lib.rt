@@ -17,6 +17,8 @@ mod touching;
 mod windows;
 mod works;
 
+pub use changes::{fault_of, is_utc, token_of, zone_of};
 pub use enters::zone_named;
 pub use following::LegalFault;
 pub use parts::Parts;
+pub use touching::first_open;

@@ -1,12 +1,10 @@
 -- The parts behind a Change are sound, and stand for the history with the Change upon it.
-use Rattle.std.proofs.Common.{◌≡◌, ℕ, suc, ◌+◌, ◌≤◌, Bool, true, false, Option, Some, None, List, [], ◌∷◌, ◌++◌, map, length, refl, ap, sym, subst, ◌∙◌, arith}
-use Rattle.std.specs.Prelude.{if◌then◌else◌}
-use Rattle.std.specs.List.{filter, Contains}
+use Rattle.std.proofs.Common.{◌≡◌, ℕ, ◌+◌, ◌≤◌, Option, Some, None, List, [], ◌∷◌, ◌++◌, map, length, refl, ap, sym, subst, ◌∙◌, arith}
+use Rattle.std.specs.List.{Contains}
 use Rattle.std.specs.Option.{option_map}
 use Rattle.std.proofs.lemmas.List.{length-append, length-map}
 use Rattle.plain_words.specs.declared.moment.Moment.{Moment}
 use Rattle.plain_words.specs.declared.limits.TheConstants.{MOST_INCARNATIONS}
-use Rattle.plain_words.specs.Lists.{some_pass, same_text}
 use Rattle.plain_words.specs.Moments.{last_moment}
 use Rattle.sched_plain.specs.declared.row.Row.{Row}
 use Rattle.sched_plain.specs.declared.step.Step.TheVariants as steps
@@ -15,8 +13,7 @@ use Rattle.sched_plain.specs.declared.write.Write.TheVariants as writes
 use Rattle.sched_plain.specs.Changes.{changes_of, Written}
 use Rattle.sched_plain.specs.History.{History, ◌upon◌}
 use Rattle.sched_plain.specs.Legal.{MayFollow}
-use Rattle.sched_plain.specs.Queues.{queue_of}
-use Rattle.sched_plain.specs.Rows.{born, content_at, deed_of, done_to, rows_after}
+use Rattle.sched_plain.specs.Rows.{born, deed_of, done_to, rows_after}
 use Rattle.sched_plain.specs.Tokens.{Kept, kept_by, kept_of, token_of}
 use Rattle.sched_plain.specs.Validity.{IsWrite}
 use Rattle.sched_rows.specs.State.{State as RowsState, Stands as RowsStand}
@@ -29,9 +26,10 @@ use Rattle.work_order.specs.DateLaws.{FinishedInTime}
 use Rattle.work_order.proofs.RevisionEdits.{written_stays}
 use Rattle.book_parts.specs.Contents.{HaveContents}
 use Rattle.book_parts.specs.Told.{Told}
-use Rattle.book_parts.specs.Sound.{IsSound, may_post, owed}
+use Rattle.book_parts.specs.Sound.{IsSound, owed}
 use Rattle.book_parts.specs.Stands.{Stands, calendar}
 use Rattle.book_parts.proofs.ContentLemmas.{contents_written}
+use Rattle.book_parts.proofs.PostLemmas.{owed_same}
 use Rattle.book_writes.specs.Keeping.{Keeper, keeper_of, kept_of_keeper}
 use Rattle.book_writes.specs.Redating.{Dated, IsRedated, HasDateRoom}
 use Rattle.book_writes.proofs.RedateLemmas.{Follows, redated_follows}
@@ -142,24 +140,6 @@ sized b at (writes.CreateGroup name token) new sound is room =
 sized b at (writes.DeleteGroup name token) new sound is room =
     same_long b at (writes.DeleteGroup name token) new sound refl is.next.long is.finished.long is.flights
 
--- attempts in the air may make the same letters where they have the same contents
-same_posts : (rows more : List Row) (queue : List ℕ) (flights : List Flight)
-    → ((f : Flight) → Contains flights f → content_at more f.inc f.instant ≡ content_at rows f.inc f.instant)
-    → owed more flights queue ≡ owed rows flights queue
-same_posts rows more queue [] same = refl
-same_posts rows more queue (f ∷ flights) same =
-    let here : may_post more queue f ≡ may_post rows queue f =
-    ap (λ (o : Option _). some_pass (same_text queue) (queue_of o)) (same f (0, omega arith, refl)) in
-    let rest = same_posts rows more queue flights (λ g there. let lt = there.1 in same g (suc there.0, omega (arith, lt), there.2)) in
-    chosen (may_post more queue f) (may_post rows queue f) (filter {X = Flight} (may_post more queue) flights) (filter {X = Flight} (may_post rows queue) flights) here rest
-  where
-    chosen : (p q : Bool) (xs ys : List Flight) → p ≡ q → length xs ≡ length ys
-        → length (if p then f ∷ xs else xs) ≡ length (if q then f ∷ ys else ys)
-    chosen true true xs ys e long = ap suc long
-    chosen true false xs ys e long = cc e
-    chosen false true xs ys e long = cc e
-    chosen false false xs ys e long = long
-
 pub change_sound : (b : Told) (at : ℕ) (write : Write) (rows : RowsState) (ledger : LedgerState) (shelf : Shelved) (next finished : Table)
     → IsSound b → IsWrite write → b.moment ≤ at → at ≤ last_moment
     → IsRedated b.zones b.rows.rows at write (dated b) (record { ledger = ledger; next = next.dates; finished = finished.dates })
@@ -192,7 +172,7 @@ change_sound b at write rows ledger shelf next finished sound valid later last i
           let same : owed rows.rows ledger.flights queue ≡ owed b.rows.rows b.ledger.flights queue =
           ap (λ (fs : List Flight). owed rows.rows fs queue) sizes.flights
           ∙ ap (λ (rs : List Row). owed rs b.ledger.flights queue) rows_are
-          ∙ same_posts b.rows.rows (rows_after (Written at write) b.rows.rows) queue b.ledger.flights
+          ∙ owed_same b.rows.rows (rows_after (Written at write) b.rows.rows) queue b.ledger.flights
           (λ f there.
           let was = sound.aloft f there in
           let early = was.1 in

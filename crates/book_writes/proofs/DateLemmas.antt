@@ -1,16 +1,12 @@
--- The first instant of a content is a date, and its zone is the one that its bytes are.
-use Rattle.std.proofs.Common.{◌≡◌, ℕ, ◌≤◌, ◌<◌, true, Option, Some, None, List, refl, sym, ◌∙◌, arith, true≢false}
+-- The first instant of a content is a date.
+use Rattle.std.proofs.Common.{◌≡◌, ℕ, ◌≤◌, ◌<◌, true, Option, Some, None, refl, sym, ◌∙◌, arith, true≢false, le_refl}
 use Rattle.std.specs.Prelude.{nat_lt, nat_le}
-use Rattle.std.specs.Option.{option_and_then}
 use Rattle.std.proofs.lemmas.Bool.Decides.{nat_tests}
 use Rattle.plain_words.proofs.Booleans.{by_bool, and_second}
 use Rattle.plain_words.specs.Moments.{last_moment}
 use Rattle.sched_plain.specs.declared.schedule.Schedule.{Schedule}
 use Rattle.sched_plain.specs.Items.{opened}
 use Rattle.sched_plain.specs.Occurrences.{occurs}
-use Rattle.zone_occ.specs.ZoneText.{ZoneText}
-use Rattle.zone_occ.specs.ZoneBytes.{zone_of}
-use Rattle.zone_occ.specs.ZoneCalendar.{zone_under}
 use Rattle.zone_shelf.specs.Places.{Places}
 use Rattle.date_table.specs.Dates.{IsDate, never}
 use Rattle.next_dates.proofs.LastItems.{past_end}
@@ -22,12 +18,7 @@ pub first_is_date : (zones : Places) (content : Schedule) (created first : ℕ) 
 first_is_date zones content created first None is = tt
 first_is_date zones content created first (Some date) is =
     let item = opened (read_in zones content.zone) created first content in
-    let occurring : occurs calendar item date ≡ true = and_second (nat_le first date) (occurs calendar item date) is.0 in
+    let occurring : occurs calendar item date ≡ true = and_second (nat_le first date) (occurs calendar item date) (is first (le_refl first)).0 in
     by_bool (λ b. b ≡ nat_lt last_moment date → date < never) (nat_lt last_moment date)
     (λ past same. absurd (true≢false (sym occurring ∙ past_end calendar item date (grind (arith, nat_tests, past)))))
     (λ within same. let le : date ≤ last_moment = grind (arith, nat_tests, within) in omega (arith, le)) refl
-
--- the zone of bytes that are kept
-pub kept_zone : (bytes : Option (List ℕ)) (zone : ZoneText) → option_and_then zone_of bytes ≡ Some zone → zone_under bytes ≡ Some zone
-kept_zone None zone e = cc e
-kept_zone (Some bytes) zone e = e

@@ -1,5 +1,5 @@
 -- The ledger and the dates behind a Change stand for the history with the Change upon it.
-use Rattle.std.proofs.Common.{◌≡◌, ℕ, ◌+◌, ◌≤◌, Bool, true, false, ◌&&◌, ◌||◌, Option, Some, None, List, [], ◌∷◌, ◌++◌, map, length, refl, ap, sym, subst, ◌∙◌, arith, inl, inr}
+use Rattle.std.proofs.Common.{◌≡◌, ℕ, ◌+◌, ◌≤◌, le_refl, Bool, true, false, ◌&&◌, ◌||◌, Option, Some, None, List, [], ◌∷◌, ◌++◌, map, length, refl, ap, sym, subst, ◌∙◌, arith, inl, inr}
 use Rattle.std.specs.Prelude.{if◌then◌else◌, nat_lt}
 use Rattle.std.specs.List.{filter}
 use Rattle.std.specs.Option.{option_and_then}
@@ -61,7 +61,7 @@ read_is zones h reads zone = ap (λ (b : Option (List ℕ)). if is_utc zone then
 first_is : (zones : Places) (h : History) → Reads zones h → (content : Schedule) (created first : ℕ) (next : Option ℕ) → IsFirst zones content created first next
     → IsLeast (from_on first (occurs calendar (opened (read_under h content.zone) created first content))) next
 first_is zones h reads content created first next is =
-    subst (λ (b : Option (List ℕ)). IsLeast (from_on first (occurs calendar (opened b created first content))) next) (read_is zones h reads content.zone) is
+    subst (λ (b : Option (List ℕ)). IsLeast (from_on first (occurs calendar (opened b created first content))) next) (read_is zones h reads content.zone) (is first (le_refl first))
 
 -- ---- one more date
 

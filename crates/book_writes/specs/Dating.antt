@@ -1,5 +1,5 @@
 -- The dates that a write gives to what it touches.
-use Rattle.std.specs.Prelude.{◌≡◌, ℕ, ◌+◌, nat_lt, true, false, ◌||◌, if◌then◌else◌, Option, Some, None, is_some, List, [], ◌∷◌, ◌++◌}
+use Rattle.std.specs.Prelude.{◌≡◌, ℕ, ◌+◌, ◌≤◌, nat_lt, false, Option, Some, None, List, [], ◌∷◌, ◌++◌}
 use Rattle.plain_words.specs.Lists.{last, nth, when}
 use Rattle.sched_plain.specs.declared.row.Row.{Row}
 use Rattle.sched_plain.specs.declared.schedule.Schedule.{Schedule}
@@ -7,26 +7,19 @@ use Rattle.sched_plain.specs.Entries.{entries, instants_of, undecided}
 use Rattle.sched_plain.specs.Items.{opened}
 use Rattle.sched_plain.specs.Ledger.{LedgerCall}
 use Rattle.sched_plain.specs.Occurrences.{occurs}
-use Rattle.sched_plain.specs.Zones.{is_utc}
-use Rattle.zone_occ.specs.ZoneText.{ZoneText}
-use Rattle.zone_occ.specs.ZoneCalendar.{zone_under}
-use Rattle.zone_shelf.specs.Places.{Places, bytes_in}
+use Rattle.zone_shelf.specs.Places.{Places}
 use Rattle.next_dates.specs.Dates.{IsLeast, from_on, never}
 use Rattle.work_order.specs.Finished.{finished_with}
+use Rattle.book_parts.specs.Entering.{IsKnown as IsZoneKnown}
+pub use Rattle.book_parts.specs.Entering.{read_in}
 use Rattle.book_parts.specs.Stands.{calendar}
 
--- the bytes under which a content in this zone is read: none for UTC
-abbrev pub read_in : Places → List ℕ → Option (List ℕ)
-read_in zones zone = if is_utc zone then None else bytes_in zones zone
-
--- the zone of these bytes, if they are one
-abbrev pub zone_in : Places → List ℕ → Option ZoneText
-zone_in zones zone = zone_under (read_in zones zone)
-
--- the first instant of a content from a moment on, where it begins then; it counts from the creation of its schedule
+-- the first instant of a content from a moment on, whichever moment its item began at before; it counts from the creation
+-- of its schedule
 abbrev pub IsFirst : Places → Schedule → ℕ → ℕ → Option ℕ → Type 0
-IsFirst zones content created first next =
-    IsLeast (from_on first (occurs calendar (opened (read_in zones content.zone) created first content))) next
+IsFirst zones content created from next =
+    (first : ℕ) → first ≤ from
+    → IsLeast (from_on from (occurs calendar (opened (read_in zones content.zone) created first content))) next
 
 -- that of a content which a row is given behind a moment
 abbrev pub IsRenewed : Places → List Row → Schedule → ℕ → ℕ → Option ℕ → Type 0
@@ -45,7 +38,7 @@ kept_date (Some date) = when (nat_lt date never) date
 
 -- the zone of a content is UTC, or its bytes are there
 abbrev pub IsKnown : Places → Schedule → Type 0
-IsKnown zones content = (is_utc content.zone || is_some (bytes_in zones content.zone)) ≡ true
+IsKnown zones content = IsZoneKnown zones content.zone
 
 -- the dates of a schedule that is created stand at the ends of the tables
 pub record IsBegun (zones : Places) (content : Schedule) (at : ℕ) (next later finished completed : List (Option ℕ)) : Type 0 where

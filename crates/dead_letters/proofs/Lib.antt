@@ -1,1 +1,2 @@
 mod PileLaws
+mod CountLaws

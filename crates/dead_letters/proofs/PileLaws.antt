@@ -31,7 +31,7 @@ pub shown_of : {A : Type 0} (piles : BTreeMap (String A) Piled) (q : List ℕ) �
 shown_of piles q = shown_under piles.entries q
 
 -- two texts that are the same are one
-one_text : (a b : List ℕ) → same_text a b ≡ true → a ≡ b
+pub one_text : (a b : List ℕ) → same_text a b ≡ true → a ≡ b
 one_text a b same = (bytes_eq-Decides a b).0 same
 
 -- ---- a map after one pile changed

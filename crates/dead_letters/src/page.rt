@@ -1,4 +1,4 @@
-ghost use Rattle.std.specs.Prelude.{◌≡◌, ℕ, IfOk, take, drop};
+ghost use Rattle.std.specs.Prelude.{◌≡◌, ◌+◌, ◌<◌, ◌^◌, IfOk, length, take, drop};
 
 use sched_plain::{Letter, Letters};
 use std::alloc::{AllocError, Global};
@@ -10,7 +10,8 @@ pub fn page_of(
     after: u64,
     max: u8,
 ) -> Result<Letters, AllocError>
-    ensures { IfOk result (λ page. page ≡ take max (drop after letters.now)) }
+    ensures page { IfOk result (λ page. page ≡ take max (drop after letters.now)) }
+    ensures numbers { IfOk result (λ page. after + length page < 2 ^ 64) }
 {
     let from = (after as usize).min(letters.len());
     let count = (max as usize).min(letters.len() - from);

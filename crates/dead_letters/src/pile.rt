@@ -1,4 +1,4 @@
-ghost use Rattle.std.specs.Prelude.{◌≡◌, ◌+◌, ◌≤◌, ◌++◌, ◌∷◌, [], IsOk, OnOk};
+ghost use Rattle.std.specs.Prelude.{◌≡◌, ◌+◌, ◌≤◌, ◌++◌, ◌∷◌, [], length, IsOk, OnOk};
 
 use sched_plain::Letter;
 use std::alloc::{AllocError, Global};
@@ -34,6 +34,13 @@ impl Pile {
         ensures { result.now ≡ self.now.letters }
     {
         self.letters.as_slice()
+    }
+
+    /// How many letters there are.
+    pub fn len(&self) -> u64
+        ensures { result ≡ length self.now.letters }
+    {
+        self.letters.len() as u64
     }
 
     /// How many more letters there is room for.

@@ -1,7 +1,7 @@
-ghost use Rattle.std.specs.Prelude.{◌≡◌, ◌≤◌, None, Some, IsSome, OnOk};
-ghost use Rattle.std.specs.BTreeMap.{get_by_text};
+ghost use Rattle.std.specs.Prelude.{◌≡◌, ◌≤◌, ◌-◌, ◌^◌, min, None, Some, IsSome, OnOk};
+ghost use Rattle.std.specs.BTreeMap.{get_by_text, values};
 ghost use Rattle.dead_letters.specs.Piles.{Piled, room_on};
-ghost use Rattle.dead_letters.specs.Shown.{Changes, Widened, IsAdded};
+ghost use Rattle.dead_letters.specs.Shown.{Changes, Widened, IsAdded, AreApart, count_in};
 
 use crate::pile::Pile;
 use sched_plain::{Letter, Text};
@@ -67,4 +67,16 @@ pub fn push_to(piles: &mut BTreeMap<String, Pile>, queue: &Text, letter: Letter)
         Some(pile) => pile.push(letter),
         None => unreachable!(),
     }
+}
+
+/// How many letters all piles have: the greatest number where there are more.
+pub fn count_of(piles: &BTreeMap<String, Pile>) -> u64
+    ensures count { result ≡ min (count_in (values piles.now)) (2 ^ 64 - 1) }
+    ensures apart { AreApart piles.now.entries }
+{
+    let mut count = 0u64;
+    for pile in piles.values() {
+        count = count.saturating_add(pile.len());
+    }
+    count
 }

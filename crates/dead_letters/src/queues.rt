@@ -1,4 +1,4 @@
-ghost use Rattle.std.specs.Prelude.{◌≡◌, ℕ, ◌+◌, ◌≤◌, ◌++◌, ◌∷◌, List, [], IsOk, IfOk, OnOk, take, drop, if◌then◌else◌};
+ghost use Rattle.std.specs.Prelude.{◌≡◌, ℕ, ◌+◌, ◌≤◌, ◌<◌, ◌-◌, ◌^◌, ◌++◌, ◌∷◌, min, List, [], IsOk, IfOk, OnOk, length, take, drop, if◌then◌else◌};
 ghost use Rattle.plain_words.specs.Lists.{same_text};
 ghost use Rattle.sched_plain.specs.Queues.{Posted};
 ghost use Rattle.dead_letters.specs.Piles.{letters_in, room_in};
@@ -6,7 +6,7 @@ ghost use Rattle.dead_letters.specs.Posts.{Holds, post};
 
 use crate::page::page_of;
 use crate::pile::Pile;
-use crate::piles::{make_room, push_to, room_for};
+use crate::piles::{count_of, make_room, push_to, room_for};
 use sched_plain::{Letter, Letters, Text};
 use std::alloc::{AllocError, Global};
 use std::collections::BTreeMap;
@@ -40,14 +40,24 @@ impl DeadLetters {
         }
     }
 
-    /// The letters of a queue behind the first `after`, at most `max` of them, in order.
+    /// The letters of a queue behind the first `after`, at most `max` of them, in order. Their numbers in the queue, from
+    /// `after + 1` on, fit.
     pub fn letters(&self, queue: &Text, after: u64, max: u8) -> Result<Letters, AllocError>
-        ensures { IfOk result (λ page. page ≡ take max (drop after (letters_in self.now queue.now))) }
+        ensures page { IfOk result (λ page. page ≡ take max (drop after (letters_in self.now queue.now))) }
+        ensures numbers { IfOk result (λ page. after + length page < 2 ^ 64) }
     {
         match self.piles.get(queue.as_str()) {
             Some(pile) => page_of(self.alloc, pile.as_slice(), after, max),
             None => Ok(Letters::new(self.alloc)),
         }
+    }
+
+    /// How many letters all queues have: the greatest number where there are more. It looks at each queue
+    /// once, and at no letter.
+    pub fn count(&self) -> u64
+        ensures { (posted : List Posted) → Holds self.now posted → result ≡ min (length posted) (2 ^ 64 - 1) }
+    {
+        count_of(&self.piles)
     }
 
     /// Makes room for so many more letters of a queue. Where memory is wanted no letter and no room is

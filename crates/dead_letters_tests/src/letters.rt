@@ -75,3 +75,19 @@ fn room_for_several_letters_is_made_at_once(rt: HostRuntime) -> Result<(), Fail>
     assert_eq!(rt; page.as_slice(), [letter_at(1), letter_at(1)].as_slice());
     Ok(())
 }
+
+#[test]
+fn counts_the_letters_of_all_queues(rt: HostRuntime) -> Result<(), Fail> {
+    let alloc = rt.alloc();
+    let dead = text_of(alloc, "dead")?;
+    let lost = text_of(alloc, "lost")?;
+    let mut letters = DeadLetters::new(alloc);
+    assert_eq!(rt; letters.count(), 0);
+    letters.reserve(&lost, 7)?;
+    assert_eq!(rt; letters.count(), 0);
+    post(&mut letters, &dead, 20)?;
+    post(&mut letters, &lost, 10)?;
+    post(&mut letters, &dead, 20)?;
+    assert_eq!(rt; letters.count(), 3);
+    Ok(())
+}

@@ -9,8 +9,8 @@ use Rattle.sched_plain.specs.declared.schedule.Policy.{Policy}
 use Rattle.sched_plain.specs.declared.step.Pair.{Pair}
 use Rattle.sched_plain.specs.Entries.{instants_of}
 use Rattle.policy_rules.specs.declared.standings.TheConstants.{LAST_CHOSEN}
-use Rattle.ledger_rows.specs.declared.row.Row.{Row}
-use Rattle.ledger_rows.specs.Rows.{instants_in, pair_of, pairs_of, IsLane, IsSmallRow, IsBehind, IsEntrance, IsTop, IsAbove, IsRising, new_row}
+use Rattle.entry_lines.specs.Rows.{Row, new_row}
+use Rattle.ledger_rows.specs.Rows.{instants_in, pair_of, pairs_of, IsLane, IsSmallRow, IsBehind, IsEntrance, IsTop, IsAbove, IsRising}
 use Rattle.ledger_rows.proofs.Lookups.{lane_push}
 
 -- the entries of pairs have their instants

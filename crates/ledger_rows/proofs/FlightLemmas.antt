@@ -1,5 +1,5 @@
 -- Each live attempt is in the air, and stays so; so the first that is waited for is found there.
-use Rattle.std.proofs.Common.{◌≡◌, ℕ, ◌+◌, ◌<◌, ◌≤◌, ◌==◌, Bool, true, false, not, ◌&&◌, ◌||◌, Option, Some, None, List, [], ◌∷◌, ◌++◌, find, option_map, length, take, get_or, refl, sym, ap, ap₂, ◌∙◌, subst, inl, inr, ◌⊎◌, arith}
+use Rattle.std.proofs.Common.{◌≡◌, ℕ, ◌+◌, ◌<◌, ◌==◌, Bool, true, false, not, ◌&&◌, ◌||◌, Option, Some, None, List, [], ◌∷◌, ◌++◌, find, option_map, length, take, get_or, refl, sym, ap, ap₂, ◌∙◌, subst, inl, inr, ◌⊎◌, arith}
 use Rattle.std.specs.Prelude.{nat_lt, if◌then◌else◌}
 use Rattle.std.specs.List.{filter, list_any}
 use Rattle.std.proofs.lemmas.Bool.{eq-eqb, eqb-true, ltb-true, lt-ltb, and_parts, or_cases}
@@ -9,7 +9,6 @@ use Rattle.plain_words.specs.Ids.{shard_of}
 use Rattle.plain_words.specs.Lists.{or_else, some_pass}
 use Rattle.plain_words.specs.declared.verdict.Verdict.{Verdict}
 use Rattle.plain_words.specs.declared.verdict.Verdict.TheVariants as verdicts
-use Rattle.plain_words.specs.declared.limits.TheConstants.{LAST_MOMENT}
 use Rattle.sched_plain.specs.declared.entry.Attempt.{Attempt}
 use Rattle.sched_plain.specs.declared.entry.Entry.{Entry}
 use Rattle.sched_plain.specs.declared.entry.Filed.{Filed}
@@ -25,14 +24,15 @@ use Rattle.sched_plain.specs.Standing.{earliest, is_past_age, is_used_up}
 use Rattle.ledger_rows.specs.declared.question.Question.TheVariants as questions
 use Rattle.ledger_rows.specs.declared.row.Flight.{Flight}
 use Rattle.ledger_rows.specs.Air.{but_for, is_flown, is_of, outside}
-use Rattle.ledger_rows.specs.Rows.{LaneRows, filed_at}
-use Rattle.ledger_rows.specs.State.{AreFlown, ChangesIn, RowsAre, filed_in, is_live_filed, lane_of, rows_cancelled, rows_entered, rows_lost, same_rows}
+use Rattle.ledger_rows.specs.Rows.{filed_at}
+use Rattle.entry_lines.specs.Rows.{LaneRows}
+use Rattle.ledger_rows.specs.State.{AreFlown, ChangesIn, RowsAre, filed_in, is_live_filed, lane_of, rows_cancelled, rows_entered, Loses, same_rows}
 use Rattle.ledger_rows.specs.Waiting.{earlier, first_with, is_waited}
 use Rattle.ledger_rows.specs.Wanting.{IsFirstOf, IsBefore, answers, is_in_air}
-use Rattle.ledger_rows.proofs.Standing.{filed_if_cancelled, filed_if_entered, filed_if_lost}
+use Rattle.ledger_rows.proofs.Standing.{filed_if_cancelled, filed_if_entered}
 use Rattle.ledger_rows.proofs.StandingLemmas.{stands_by}
 
-bool_cases : (b : Bool) → (b ≡ true) ⊎ (b ≡ false)
+pub bool_cases : (b : Bool) → (b ≡ true) ⊎ (b ≡ false)
 bool_cases true = inl refl
 bool_cases false = inr refl
 
@@ -40,7 +40,7 @@ or_true : (b : Bool) → (b || true) ≡ true
 or_true true = refl
 or_true false = refl
 
-false_true : {A : Type 0} (b : Bool) → b ≡ false → b ≡ true → A
+pub false_true : {A : Type 0} (b : Bool) → b ≡ false → b ≡ true → A
 false_true b e f = let clash : ⊥ = cc in absurd clash
 
 -- an element that is found is found among those that pass a test that it passes
@@ -157,11 +157,11 @@ flown_ended old new flights inc instant at verdict grow changes flown i k live =
           (flown i k (subst (λ (b : Bool). some_pass is_live_filed (changed_if b (with_end verdict at) (filed_in old i k)) ≡ true) other now))
     ]
 
-pub flown_lost : (old new : List LaneRows) (flights : List Flight) (shard : Option ℕ) (at : ℕ) → at ≤ LAST_MOMENT → RowsAre old new (rows_lost shard at) → AreFlown old flights
+pub flown_lost : (old new : List LaneRows) (flights : List Flight) (shard : Option ℕ) (at : ℕ) → Loses old new (λ i k. is_lost_in shard i) at → AreFlown old flights
     → AreFlown new (outside shard flights)
-flown_lost old new flights shard at le are flown i k live =
+flown_lost old new flights shard at loses flown i k live =
     let now : some_pass is_live_filed (changed_if (is_lost_in shard i) (with_loss at) (filed_in old i k)) ≡ true =
-    ap (some_pass is_live_filed) (sym (ap (λ rows. filed_at rows k) (are i) ∙ filed_if_lost (is_lost_in shard i) at le (lane_of old i).rows k)) ∙ live in
+    subst (λ (o : Option Filed). some_pass is_live_filed o ≡ true) (loses.filed i k) live in
     elim (bool_cases (is_lost_in shard i)) [
       | inl this ↦
           false_true (some_pass is_live_filed (changed_if true (with_loss at) (filed_in old i k))) (live_gone (with_loss at) (filed_in old i k) (λ e. lost_gone at e.last))
@@ -221,7 +221,7 @@ none_seen lanes shard i k e = and_false (is_waited lanes i k)
     and_false true = refl
     and_false false = refl
 
-seen_more : (flights : List Flight) (n : ℕ) (d : Flight) → n < length flights → (i k : ℕ)
+pub seen_more : (flights : List Flight) (n : ℕ) (d : Flight) → n < length flights → (i k : ℕ)
     → is_flown (take (n + 1) flights) i k ≡ (is_flown (take n flights) i k || is_of i k (get_or flights n d))
 seen_more flights n d lt i k =
     ap (list_any (is_of i k)) (take_more flights n d lt) ∙ list_any-append (is_of i k) (take n flights) (get_or flights n d ∷ [])

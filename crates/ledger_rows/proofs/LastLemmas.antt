@@ -1,10 +1,10 @@
 -- The last instant of some entries.
-use Rattle.std.proofs.Common.{◌≡◌, ℕ, ◌-◌, suc, Option, Some, None, List, [], ◌∷◌, map, length, refl, ap, sym, ◌∙◌, arith}
+use Rattle.std.proofs.Common.{◌≡◌, ℕ, ◌-◌, ◌<◌, zero, suc, Some, List, [], ◌∷◌, length, refl, ap, sym, ◌∙◌, arith}
 use Rattle.std.specs.Prelude.{slice_get}
 use Rattle.std.specs.Option.{option_map}
 use Rattle.plain_words.specs.Lists.{last, last_from}
 use Rattle.sched_plain.specs.Entries.{instants_of}
-use Rattle.ledger_rows.specs.declared.row.Row.{Row}
+use Rattle.entry_lines.specs.Rows.{Row, row_there}
 use Rattle.ledger_rows.specs.Rows.{pairs_of}
 
 last_is : {A : Type 0} (x : A) (xs : List A) → last_from x xs ≡ slice_get (x ∷ xs) (length xs)
@@ -24,3 +24,14 @@ last_from_row row (next ∷ rows) = last_from_row next rows
 pub last_instant_is : (rows : List Row) → option_map {T = Row} (λ r. r.instant) (last rows) ≡ last (instants_of (pairs_of rows))
 last_instant_is [] = refl
 last_instant_is (row ∷ rows) = last_from_row row rows
+
+-- the instant of the row at the last place
+pub last_there : (rows : List Row) (n : ℕ) → n ≡ length rows → 0 < n → Some (row_there rows (n - 1)).instant ≡ last (instants_of (pairs_of rows))
+last_there rows n is some =
+    let at : slice_get rows (length rows - 1) ≡ Some (row_there rows (n - 1)) = there rows (length rows - 1) (omega (arith, is, some)) ∙ ap (λ (k : ℕ). Some (row_there rows (k - 1))) (sym is) in
+    ap (option_map {T = Row} (λ r. r.instant)) (sym at ∙ last_at rows) ∙ last_instant_is rows
+  where
+    there : (rows : List Row) (i : ℕ) → i < length rows → slice_get rows i ≡ Some (row_there rows i)
+    there [] i lt = absurd (omega (arith, lt))
+    there (row ∷ rows) zero lt = refl
+    there (row ∷ rows) (suc i) lt = there rows i (omega (arith, lt))

@@ -1,11 +1,15 @@
 pub mod ListSteps
-pub mod Sifting
 pub mod Lookups
 pub mod StandingLemmas
 pub mod NumberLemmas
+pub mod BlockLemmas
 pub mod ShelfLemmas
 pub mod Entrances
 pub mod Standing
 pub mod Tallies
 pub mod FlightLemmas
 pub mod LastLemmas
+pub mod Wholes
+pub mod Undecided
+pub mod Losses
+pub mod LastLive

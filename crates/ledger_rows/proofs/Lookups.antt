@@ -21,8 +21,8 @@ use Rattle.policy_rules.specs.declared.standings.TheConstants.{LAST_CHOSEN}
 use Rattle.sched_plain.specs.declared.entry.Last.{Last}
 use Rattle.sched_plain.specs.declared.entry.Last.TheVariants as lasts
 use Rattle.sched_plain.specs.declared.outcome.Outcome.{Outcome}
-use Rattle.ledger_rows.specs.declared.row.Row.{Row}
-use Rattle.ledger_rows.specs.Rows.{instants_in, row_at, filed_in_row, attempts_in_row, pair_of, IsRising, IsPlace, IsCut, IsBehind, IsSmallRow, IsLane, Changes, cancelled_row, filed_at, pairs_of, lost_row}
+use Rattle.entry_lines.specs.Rows.{Row, changed, no_row, row_there}
+use Rattle.ledger_rows.specs.Rows.{instants_in, row_at, filed_in_row, attempts_in_row, pair_of, IsRising, IsPlace, IsCut, IsBehind, IsSmallRow, IsLane, Changes, cancelled_row, filed_at, pairs_of}
 
 -- no entry is at the instant
 pub absent : (rows : List Row) (k : ℕ) → ((j : ℕ) → j < length rows → slice_index (instants_in rows) j ≢ k) → row_at rows k ≡ None
@@ -88,7 +88,7 @@ changed_filed true change row new o here is = rw (here refl) (ap Some is)
 changed_filed false change row new o here is = refl
 
 changed_attempts : (t : Bool) (grow : List Attempt → List Attempt) (row new : Row) (o : Option Row) → (t ≡ true → o ≡ Some row)
-    → new.attempts.attempts ≡ grow row.attempts.attempts
+    → new.attempts ≡ grow row.attempts
     → attempts_in_row (cond t (Some new) o) ≡ cond t (grow (attempts_in_row o)) (attempts_in_row o)
 changed_attempts true grow row new o here is = rw (here refl) is
 changed_attempts false grow row new o here is = refl
@@ -97,7 +97,7 @@ changed_attempts false grow row new o here is = refl
 pub record IsChange (change : Entry → Entry) (grow : List Attempt → List Attempt) (old new : Row) : Type 0 where
   pub instant : new.instant ≡ old.instant
   pub filed : new.filed ≡ on_entry change old.filed
-  pub attempts : new.attempts.attempts ≡ grow old.attempts.attempts
+  pub attempts : new.attempts ≡ grow old.attempts
   pub chosen : new.filed.entry.chosen ≡ old.filed.entry.chosen
 
 pair_same : (x y : Row) → x.instant ≡ y.instant → x.filed.entry.chosen ≡ y.filed.entry.chosen → pair_of x ≡ pair_of y
@@ -194,7 +194,7 @@ pub record Done (rows new : List Row) (k : ℕ) (change : Entry → Entry) (grow
 
 pub op_done : (rows looked : List Row) (k p : ℕ) (old new : Row) (change : Entry → Entry) (grow : List Attempt → List Attempt)
     → looked ≡ rows → IsPlace looked k p → old ≡ get_or rows p old → IsLane rows → IsMild change
-    → new.instant ≡ old.instant → new.filed ≡ on_entry change old.filed → new.attempts.attempts ≡ grow old.attempts.attempts
+    → new.instant ≡ old.instant → new.filed ≡ on_entry change old.filed → new.attempts ≡ grow old.attempts
     → Done rows (set rows p new) k change grow
 op_done rows looked k p old new change grow same is there lane mild instant filed attempts =
     let place : IsPlace rows k p = subst (λ (l : List Row). IsPlace l k p) same is in
@@ -282,13 +282,6 @@ lane_mapped f even rows lane = record {
 pub cancelled_even : IsEven cancelled_row
 cancelled_even = record { instant = λ row. refl; chosen = λ row. refl; small = λ row was. record { chosen = was.chosen; last = was.last; retries = was.retries } }
 
-pub lost_even : (at : ℕ) → at ≤ LAST_MOMENT → IsEven (lost_row at)
-lost_even at le = record {
-  instant = λ row. refl;
-  chosen = λ row. refl;
-  small = λ row was. record { chosen = was.chosen; last = lost_small at row.filed.entry.last le was.last; retries = was.retries };
-}
-
 -- a test that fails at each entry of an instant fails at what is looked up there
 pub each_looked : (test : Filed → Bool) (rows : List Row) (k : ℕ)
     → ((j : ℕ) (d : Row) → j < length rows → (get_or rows j d).instant ≡ k → test (get_or rows j d).filed ≡ false)
@@ -338,3 +331,27 @@ set_found rows looked k p old new same is there instant =
     instant ∙ ap {A = Row} (λ r. r.instant) there ∙ sym (get_or-map {X = Row} (λ row. row.instant) rows p old 0 place.in_range) ∙ place.here in
     let itself : (k == k) ≡ true = eq-eqb k k refl in
     found_set rows k p k new place at_k ∙ ap (λ (b : Bool). cond b (Some new) (row_at rows k)) itself
+
+-- a row whose entry is changed mildly has small numbers
+pub mild_small : (change : Entry → Entry) (grow : List Attempt → List Attempt) (row : Row) → IsMild change → IsSmallRow row → IsSmallRow (changed change grow row)
+mild_small change grow row mild was = record {
+  chosen = subst (λ (n : ℕ). n ≤ LAST_CHOSEN) (sym (mild.chosen row.filed.entry)) was.chosen;
+  last = mild.last row.filed.entry was.last;
+  retries = was.retries;
+}
+
+-- what such a change of one row makes of its lane
+pub mild_done : (rows new : List Row) (k p : ℕ) (change : Entry → Entry) (grow : List Attempt → List Attempt) → IsPlace rows k p → IsLane rows → IsMild change
+    → new ≡ set rows p (changed change grow (row_there rows p)) → Done rows new k change grow
+mild_done rows new k p change grow place lane mild is =
+    let old = row_there rows p in
+    let next = changed change grow old in
+    subst (λ (l : List Row). Done rows l k change grow) (sym is)
+    (record {
+      lane = lane_set rows p no_row next lane refl (mild_small change grow old mild (lane.small p no_row place.in_range));
+      changes = changes_set rows k p change grow no_row next place (record { instant = refl; filed = refl; attempts = refl; chosen = mild.chosen old.filed.entry });
+    })
+
+-- the row at the place is the one that is looked up
+pub there_is : (rows : List Row) (k p : ℕ) → IsPlace rows k p → row_at rows k ≡ Some (row_there rows p)
+there_is rows k p place = present rows k p no_row place

@@ -1,6 +1,6 @@
 -- The number of an entry says from which moment on something is to be done for it.
 use Rattle.std.proofs.Common.{◌≡◌, ℕ, zero, suc, ◌+◌, ◌≤◌, ◌<◌, Bool, true, false, ◌&&◌, ◌||◌, Option, Some, None, List, [], ◌∷◌, ◌++◌, map, length, take, drop, get_or, set, slice_index, refl, sym, ap, ap₂, ◌∙◌, subst, arith}
-use Rattle.std.specs.Prelude.{nat_le, nat_lt, slice_set}
+use Rattle.std.specs.Prelude.{nat_le, nat_lt, slice_set, is_some, is_none}
 use Rattle.std.specs.List.{All}
 use Rattle.std.proofs.lemmas.Bool.{ltb-true, ltb-false, leb-true, leb-false}
 use Rattle.std.proofs.lemmas.List.{map-set, map-append, get_or-map, length-map, length-set}
@@ -12,14 +12,14 @@ use Rattle.sched_plain.specs.declared.entry.Last.{Last}
 use Rattle.sched_plain.specs.declared.entry.Last.TheVariants as lasts
 use Rattle.sched_plain.specs.declared.outcome.Outcome.{Outcome}
 use Rattle.sched_plain.specs.Attempts.{is_live_last}
-use Rattle.sched_plain.specs.Standing.{earliest, earliest_after, is_used_up}
+use Rattle.sched_plain.specs.Standing.{earliest, earliest_after, is_past_age, is_used_up}
 use Rattle.policy_rules.specs.LastAttempt.{last_at}
 use Rattle.policy_rules.specs.declared.standings.TheConstants.{LAST_CHOSEN}
 use Rattle.ledger_rows.specs.declared.question.Question.TheVariants as questions
-use Rattle.ledger_rows.specs.declared.row.Row.{Row}
-use Rattle.ledger_rows.specs.declared.wants.TheConstants.{LAST_BOUND}
+use Rattle.entry_lines.specs.Rows.{Row}
+use Rattle.ledger_rows.specs.declared.wants.TheConstants.{IN_AIR, LAST_BOUND}
 use Rattle.ledger_rows.specs.Numbers.{bound_at, lane_number, numbers_of, wants, wants_at}
-use Rattle.ledger_rows.specs.Rows.{IsLane, IsSmallRow, filed_at, filed_in_row}
+use Rattle.ledger_rows.specs.Rows.{IsLane, IsSmallRow, filed_at, filed_in_row, is_open_row}
 use Rattle.ledger_rows.specs.Wanting.{answers, asks, is_to_do, IsFirstIn}
 use Rattle.ledger_rows.proofs.ListSteps.{mapped_step}
 use Rattle.ledger_rows.proofs.Lookups.{IsEven, lane_set, each_looked, found_here, first_here}
@@ -111,7 +111,7 @@ acts_now row now le =
     f.entry.chosen f.policy.age (earliest f.entry) now (tests_of f now) le
 
 -- the number at a place is that of the entry there
-number_at : (rows : List Row) (j : ℕ) (d : Row) → j < length rows → slice_index (numbers_of rows) j ≡ wants (get_or rows j d).filed
+pub number_at : (rows : List Row) (j : ℕ) (d : Row) → j < length rows → slice_index (numbers_of rows) j ≡ wants (get_or rows j d).filed
 number_at rows j d lt = get_or-map {X = Row} (λ row. wants row.filed) rows j d 0 lt
 
 later_at : (rows : List Row) (now j : ℕ) (d : Row) → All IsSmallRow rows → j < length rows → bound_at now < slice_index (numbers_of rows) j
@@ -187,3 +187,31 @@ mapping_ends f [] zero le = refl
 mapping_ends f [] (suc i) le = refl
 mapping_ends f (x ∷ xs) zero le = absurd (omega (arith, le))
 mapping_ends f (x ∷ xs) (suc i) le = ap (λ ys. f x ∷ ys) (mapping_ends f xs i (omega (arith, le)))
+
+open_low : (outcome : Option Outcome) (live used past waits : Bool) (chosen until : ℕ) → chosen ≤ LAST_BOUND → until ≤ LAST_BOUND
+    → IN_AIR < wants_at (stands_by outcome live used past waits until) chosen → is_some outcome ≡ true
+open_low (Some o) live used past waits chosen until a b lt = refl
+open_low None true used past waits chosen until a b lt = absurd (omega (arith, lt))
+open_low None false true past waits chosen until a b lt = absurd (omega (arith, lt, a))
+open_low None false false true waits chosen until a b lt = absurd (omega (arith, lt, a))
+open_low None false false false true chosen until a b lt = absurd (omega (arith, lt, a, b))
+open_low None false false false false chosen until a b lt = absurd (omega (arith, lt, a))
+
+-- an entry whose number is above that of one in the air is decided
+pub decided_above : (row : Row) → IsSmallRow row → IN_AIR < wants row.filed → is_some row.filed.entry.outcome ≡ true
+unfolding wants
+decided_above row small lt =
+    let f = row.filed in
+    open_low f.entry.outcome (is_live_last f.entry.last) (is_used_up f.entry f.policy) (is_past_age f.entry f.policy 0) (nat_lt 0 (earliest f.entry)) f.entry.chosen (earliest f.entry)
+    (omega (arith, small.chosen)) (early f.entry f.entry.last small.chosen small.last) lt
+
+low_open : (outcome : Option Outcome) (live used past waits : Bool) (chosen until : ℕ) → wants_at (stands_by outcome live used past waits until) chosen ≤ IN_AIR → is_none outcome ≡ true
+low_open (Some o) live used past waits chosen until le = absurd (omega (arith, le))
+low_open None live used past waits chosen until le = refl
+
+-- any other is not
+pub open_below : (row : Row) → wants row.filed ≤ IN_AIR → is_open_row row ≡ true
+unfolding wants
+open_below row le =
+    let f = row.filed in
+    low_open f.entry.outcome (is_live_last f.entry.last) (is_used_up f.entry f.policy) (is_past_age f.entry f.policy 0) (nat_lt 0 (earliest f.entry)) f.entry.chosen (earliest f.entry) le

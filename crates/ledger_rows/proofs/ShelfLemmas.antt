@@ -1,6 +1,8 @@
 -- What a change of a lane or of a number makes of the shelves.
 use Rattle.std.proofs.Common.{◌≡◌, ℕ, ◌+◌, ◌-◌, ◌*◌, ◌/◌, ◌%◌, ◌≤◌, ◌<◌, ◌==◌, ◌≢◌, Bool, true, false, cond, List, [], ◌∷◌, ◌++◌, length, length-append, get_or, slice_index, sym, ap, ◌∙◌, subst, inl, inr, arith, Some, None}
+use Rattle.std.specs.Prelude.{IsSome, is_some}
 use Rattle.std.specs.List.{All}
+use Rattle.sched_plain.specs.declared.entry.Filed.{Filed}
 use Rattle.std.proofs.lemmas.Bool.{cases_eq, cases_lt, eq-eqb, ne_eqb}
 use Rattle.std.proofs.lemmas.List.{get_or_past, get_or_append_left}
 use Rattle.std.proofs.Math.Seq.{get_or-append_seam}
@@ -10,9 +12,9 @@ use Rattle.min_tree.specs.declared.nodes.TheConstants.{ABOVE_ALL}
 use Rattle.plain_words.specs.Ids.{shard_of}
 use Rattle.plain_words.specs.declared.limits.TheConstants.{SHARDS}
 use Rattle.ledger_rows.specs.declared.question.Question.TheVariants as questions
-use Rattle.ledger_rows.specs.declared.row.Row.{Row}
+use Rattle.entry_lines.specs.Rows.{Row, LaneRows}
 use Rattle.ledger_rows.specs.Numbers.{bound_at, lane_number}
-use Rattle.ledger_rows.specs.Rows.{IsSmallRow, LaneRows}
+use Rattle.ledger_rows.specs.Rows.{IsSmallRow, filed_at}
 use Rattle.ledger_rows.specs.Shelves.{AreShelved, AreSameShelves, HasPlace, IsLonger, no_numbers, number_there, shelf}
 use Rattle.ledger_rows.specs.State.{RowsAre, filed_in, lane_of, no_lane, same_rows}
 use Rattle.ledger_rows.specs.Wanting.{IsFirstIn, IsFirstOf, answers}
@@ -212,3 +214,22 @@ found_first lanes trees shard now place inc instant s lt first is found = record
     | inr same ↦ subst (λ (j : ℕ). answers (questions.ToAct now) (filed_in lanes j k) ≡ false) (sym same.0) (found.1 k same.1)
   ];
 }
+
+-- the same rows keep their shelves
+pub shelved_rows : (old new : List LaneRows) (trees : List Numbers) → length new ≡ length old → RowsAre old new same_rows → AreShelved old trees → AreShelved new trees
+shelved_rows old new trees long are s = record {
+  there = λ inc lt. s.there inc (omega (arith, lt, long));
+  each = λ inc has. s.each inc has ∙ ap lane_number (sym (are inc));
+  small = λ inc. subst (λ (rows : List Row). All IsSmallRow rows) (sym (are inc)) (s.small inc);
+}
+
+-- what has an entry has a lane
+pub some_lane : (lanes : List LaneRows) (inc instant : ℕ) → IsSome (filed_in lanes inc instant) → inc < length lanes
+some_lane lanes inc instant some = elim (cases_lt inc (length lanes)) [
+  | inl inside ↦ inside
+  | inr past ↦
+      let gone : IsSome (filed_at (no_lane).rows instant) = subst (λ (lane : LaneRows). IsSome (filed_at lane.rows instant)) (get_or_past lanes inc no_lane past) some in absurd (none_some gone)
+]
+  where
+    none_some : is_some {T = Filed} None ≡ true → ⊥
+    none_some gone = cc

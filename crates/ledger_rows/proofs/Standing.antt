@@ -1,5 +1,5 @@
 -- For which calls a ledger stands after a change of the entries of whole incarnations.
-use Rattle.std.proofs.Common.{◌≡◌, ℕ, ◌==◌, ◌≤◌, Bool, true, false, cond, Option, Some, None, List, [], ◌∷◌, ◌++◌, map, find, option_map, refl, sym, ap, ◌∙◌}
+use Rattle.std.proofs.Common.{◌≡◌, ℕ, ◌==◌, Bool, true, false, cond, Option, Some, None, List, [], ◌∷◌, ◌++◌, map, find, option_map, refl, sym, ap, ◌∙◌}
 use Rattle.std.specs.Prelude.{if◌then◌else◌}
 use Rattle.std.proofs.lemmas.List.{map-append}
 use Rattle.plain_words.specs.Lists.{or_else}
@@ -11,11 +11,10 @@ use Rattle.sched_plain.specs.declared.step.Pair.{Pair}
 use Rattle.sched_plain.specs.Ledger.{LedgerCall, Entered, Cancelled, Lost}
 use Rattle.sched_plain.specs.Entries.{entries, filed, filed_by, changed_if, on_entry, decided_as, with_loss, is_lost_in}
 use Rattle.sched_plain.specs.Attempts.{attempts, lose_attempt}
-use Rattle.plain_words.specs.declared.limits.TheConstants.{LAST_MOMENT}
-use Rattle.ledger_rows.specs.declared.row.Row.{Row}
-use Rattle.ledger_rows.specs.Rows.{LaneRows, row_at, filed_in_row, filed_at, attempts_in_row, attempts_at, pair_of, pairs_of, new_row, cancelled_row, lost_row}
-use Rattle.ledger_rows.specs.State.{Tells, RowsAre, lane_of, rows_entered, rows_cancelled, rows_lost}
-use Rattle.ledger_rows.proofs.Lookups.{IsEven, found_mapped, mapped_pairs, cancelled_even, lost_even}
+use Rattle.entry_lines.specs.Rows.{Row, LaneRows, new_row}
+use Rattle.ledger_rows.specs.Rows.{row_at, filed_in_row, filed_at, attempts_in_row, attempts_at, pair_of, pairs_of, cancelled_row}
+use Rattle.ledger_rows.specs.State.{Tells, RowsAre, lane_of, rows_entered, rows_cancelled, Loses}
+use Rattle.ledger_rows.proofs.Lookups.{IsEven, found_mapped, mapped_pairs, cancelled_even}
 
 cancelled_filed : (o : Option Row) → filed_in_row (option_map cancelled_row o) ≡ option_map (on_entry (decided_as outcomes.Cancelled)) (filed_in_row o)
 cancelled_filed None = refl
@@ -30,7 +29,7 @@ pub filed_if_cancelled : (b : Bool) (rows : List Row) (k : ℕ)
 filed_if_cancelled true rows k = ap filed_in_row (found_mapped cancelled_row cancelled_even rows k) ∙ cancelled_filed (row_at rows k)
 filed_if_cancelled false rows k = refl
 
-attempts_if_cancelled : (b : Bool) (rows : List Row) (k : ℕ) → attempts_at (if b then map cancelled_row rows else rows) k ≡ attempts_at rows k
+pub attempts_if_cancelled : (b : Bool) (rows : List Row) (k : ℕ) → attempts_at (if b then map cancelled_row rows else rows) k ≡ attempts_at rows k
 attempts_if_cancelled true rows k = ap attempts_in_row (found_mapped cancelled_row cancelled_even rows k) ∙ cancelled_attempts (row_at rows k)
 attempts_if_cancelled false rows k = refl
 
@@ -49,35 +48,13 @@ cancel_told old new inc calls are told = record {
   attempts = λ i k. ap (λ rows. attempts_at rows k) (are i) ∙ attempts_if_cancelled (i == inc) (lane_of old i).rows k ∙ told.attempts i k;
 }
 
-lost_filed : (at : ℕ) (o : Option Row) → filed_in_row (option_map (lost_row at) o) ≡ option_map (on_entry (with_loss at)) (filed_in_row o)
-lost_filed at None = refl
-lost_filed at (Some row) = refl
-
-lost_attempts : (at : ℕ) (o : Option Row) → attempts_in_row (option_map (lost_row at) o) ≡ map lose_attempt (attempts_in_row o)
-lost_attempts at None = refl
-lost_attempts at (Some row) = refl
-
-pub filed_if_lost : (b : Bool) (at : ℕ) → at ≤ LAST_MOMENT → (rows : List Row) (k : ℕ)
-    → filed_at (if b then map (lost_row at) rows else rows) k ≡ changed_if b (with_loss at) (filed_at rows k)
-filed_if_lost true at le rows k = ap filed_in_row (found_mapped (lost_row at) (lost_even at le) rows k) ∙ lost_filed at (row_at rows k)
-filed_if_lost false at le rows k = refl
-
-attempts_if_lost : (b : Bool) (at : ℕ) → at ≤ LAST_MOMENT → (rows : List Row) (k : ℕ)
-    → attempts_at (if b then map (lost_row at) rows else rows) k ≡ (if b then map lose_attempt (attempts_at rows k) else attempts_at rows k)
-attempts_if_lost true at le rows k = ap attempts_in_row (found_mapped (lost_row at) (lost_even at le) rows k) ∙ lost_attempts at (row_at rows k)
-attempts_if_lost false at le rows k = refl
-
-pub lose_told : (old new : List LaneRows) (shard : Option ℕ) (at : ℕ) (calls : List LedgerCall) → at ≤ LAST_MOMENT → RowsAre old new (rows_lost shard at)
+pub lose_told : (old new : List LaneRows) (shard : Option ℕ) (at : ℕ) (calls : List LedgerCall) → Loses old new (λ i k. is_lost_in shard i) at
     → Tells old (filed calls) (entries calls) (attempts calls)
     → Tells new (filed (Lost shard at ∷ calls)) (entries (Lost shard at ∷ calls)) (attempts (Lost shard at ∷ calls))
-lose_told old new shard at calls le are told = record {
-  filed = λ i k.
-      ap (λ rows. filed_at rows k) (are i) ∙ filed_if_lost (is_lost_in shard i) at le (lane_of old i).rows k
-      ∙ ap (changed_if (is_lost_in shard i) (with_loss at)) (told.filed i k);
-  pairs = λ i. ap pairs_of (are i) ∙ pairs_if (is_lost_in shard i) (lost_row at) (lost_even at le) (lane_of old i).rows ∙ told.pairs i;
-  attempts = λ i k.
-      ap (λ rows. attempts_at rows k) (are i) ∙ attempts_if_lost (is_lost_in shard i) at le (lane_of old i).rows k
-      ∙ ap (λ (l : List Attempt). cond (is_lost_in shard i) (map lose_attempt l) l) (told.attempts i k);
+lose_told old new shard at calls loses told = record {
+  filed = λ i k. loses.filed i k ∙ ap (changed_if (is_lost_in shard i) (with_loss at)) (told.filed i k);
+  pairs = λ i. loses.pairs i ∙ told.pairs i;
+  attempts = λ i k. loses.attempts i k ∙ ap (λ (l : List Attempt). cond (is_lost_in shard i) (map lose_attempt l) l) (told.attempts i k);
 }
 
 or_else_found : (b : Bool) (row : Row) (o more : Option Row) → cond b (Some row) (or_else o more) ≡ or_else (cond b (Some row) o) more
@@ -124,7 +101,7 @@ filed_if_entered true policy pairs rows k =
     ∙ ap (or_else (filed_at rows k)) (filed_new policy pairs k new refl)
 filed_if_entered false policy pairs rows k = refl
 
-attempts_if_entered : (b : Bool) (policy : Policy) (pairs : List Pair) (rows : List Row) (k : ℕ)
+pub attempts_if_entered : (b : Bool) (policy : Policy) (pairs : List Pair) (rows : List Row) (k : ℕ)
     → attempts_at (if b then rows ++ map (new_row policy) pairs else rows) k ≡ attempts_at rows k
 attempts_if_entered true policy pairs rows k =
     ap attempts_in_row (found_append rows (map (new_row policy) pairs) k ∙ ap (or_else (row_at rows k)) (found_new policy pairs k))

@@ -8,7 +8,7 @@ use Rattle.sched_plain.specs.declared.step.Pair.{Pair}
 use Rattle.sched_plain.specs.Standing.{standing_of}
 use Rattle.sched_plain.specs.Entries.{instants_of, is_open}
 use Rattle.sched_plain.specs.Report.{number_of, one_more_if}
-use Rattle.ledger_rows.specs.declared.row.Row.{Row}
+use Rattle.entry_lines.specs.Rows.{Row, LaneRows}
 use Rattle.ledger_rows.specs.Rows.{row_at, filed_in_row, filed_at, pairs_of, is_open_row, open_in, standings_in, standings_looked, IsRising}
 use Rattle.std.proofs.lemmas.Grind.{flat_map-append}
 use Rattle.std.proofs.lemmas.List.{get_or_past}
@@ -21,7 +21,6 @@ use Rattle.sched_plain.specs.Report.{all_standings, standings_of}
 use Rattle.ledger_rows.specs.declared.counts.Kind.{Kind}
 use Rattle.ledger_rows.specs.declared.counts.Kind.TheVariants as kinds
 use Rattle.ledger_rows.specs.Counting.{is_kind, IsWithin}
-use Rattle.ledger_rows.specs.Rows.{LaneRows}
 use Rattle.ledger_rows.specs.State.{Tells, no_lane, lane_standings}
 use Rattle.ledger_rows.proofs.Lookups.{found_here}
 

@@ -1,9 +1,10 @@
 pub mod Air
 pub mod Wanting
 pub mod Counting
-pub mod Kept
 pub mod Rows
 pub mod Numbers
+pub mod Blocks
+pub mod Stretch
 pub mod State
 pub mod Shelves
 pub mod Waiting

@@ -1,13 +1,12 @@
 -- The number that an entry is found by: the moment from which on something is to be done for it.
-use Rattle.std.specs.Prelude.{◌≡◌, ℕ, ◌≤◌, max, min, List, map}
-use Rattle.min_tree.specs.Numbers.{Numbers}
+use Rattle.std.specs.Prelude.{ℕ, max, min, List, map}
 use Rattle.min_tree.specs.Search.{least}
 use Rattle.min_tree.specs.declared.nodes.TheConstants.{ABOVE_ALL}
 use Rattle.sched_plain.specs.Standing.{standing_of}
 use Rattle.sched_plain.specs.declared.entry.Filed.{Filed}
 use Rattle.sched_plain.specs.declared.standing.Standing.{Standing}
 use Rattle.sched_plain.specs.declared.standing.Standing.TheVariants as standings
-use Rattle.ledger_rows.specs.declared.row.Row.{Row}
+use Rattle.entry_lines.specs.Rows.{Row}
 use Rattle.ledger_rows.specs.declared.wants.TheConstants.{IN_AIR, LAST_BOUND}
 
 -- by where it stands at moment 0: exhausted, it is to be closed once its chosen moment has come; it waits for the
@@ -33,8 +32,3 @@ lane_number rows = least (numbers_of rows)
 -- what a number is compared with at a moment, so that no moment reaches the numbers of the live and the decided
 abbrev pub bound_at : ℕ → ℕ
 bound_at now = min now LAST_BOUND
-
--- a lane keeps the numbers of its entries, with room for as many more
-pub record IsNumbered (rows : List Row) (wants : Numbers) (room : ℕ) : Type 0 where
-  pub values : wants.values ≡ numbers_of rows
-  pub ready : room ≤ wants.room

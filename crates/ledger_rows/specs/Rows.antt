@@ -1,6 +1,5 @@
 -- The entries of one incarnation as its lane keeps them, and what is looked up in them.
-use Rattle.ledger_rows.specs.declared.lane.TheConstants.{MOST_ENTRIES}
-use Rattle.std.specs.Prelude.{◌≡◌, ℕ, ◌+◌, ◌≤◌, ◌<◌, ◌==◌, ◌≢◌, if◌then◌else◌, Option, Some, None, is_none, List, [], map, length, slice_index, Bool}
+use Rattle.std.specs.Prelude.{◌≡◌, ℕ, ◌≤◌, ◌<◌, ◌==◌, ◌≢◌, if◌then◌else◌, Option, Some, None, is_none, List, [], map, length, slice_index, Bool}
 use Rattle.std.specs.List.{find, filter, flat_map, All}
 use Rattle.std.specs.Option.{option_map, option_to_list}
 use Rattle.sched_plain.specs.declared.standing.Standing.{Standing}
@@ -9,19 +8,11 @@ use Rattle.sched_plain.specs.declared.entry.Attempt.{Attempt}
 use Rattle.sched_plain.specs.declared.entry.Entry.{Entry}
 use Rattle.sched_plain.specs.declared.entry.Filed.{Filed}
 use Rattle.sched_plain.specs.declared.step.Pair.{Pair}
-use Rattle.sched_plain.specs.Entries.{changed_if, on_entry, decided_as, with_loss, is_open, new_entry, instants_of}
-use Rattle.sched_plain.specs.declared.schedule.Policy.{Policy}
+use Rattle.sched_plain.specs.Entries.{changed_if, on_entry, decided_as, is_open, instants_of}
 use Rattle.sched_plain.specs.declared.outcome.Outcome.TheVariants as outcomes
-use Rattle.sched_plain.specs.Attempts.{lose_attempt}
-use Rattle.ledger_rows.specs.Kept.{none_kept}
 use Rattle.policy_rules.specs.LastAttempt.{last_at}
 use Rattle.policy_rules.specs.declared.standings.TheConstants.{LAST_CHOSEN}
-use Rattle.ledger_rows.specs.declared.row.Row.{Row}
-
--- the entries in the order of their instants, and the room for more
-pub record LaneRows : Type 0 where
-  pub rows : List Row
-  pub room : ℕ
+use Rattle.entry_lines.specs.Rows.{Row}
 
 abbrev pub instants_in : List Row → List ℕ
 instants_in rows = map {A = Row} (λ row. row.instant) rows
@@ -40,18 +31,10 @@ filed_at rows instant = filed_in_row (row_at rows instant)
 -- its attempts, none where it is not there
 abbrev pub attempts_in_row : Option Row → List Attempt
 attempts_in_row None = []
-attempts_in_row (Some row) = row.attempts.attempts
+attempts_in_row (Some row) = row.attempts
 
 abbrev pub attempts_at : List Row → ℕ → List Attempt
 attempts_at rows instant = attempts_in_row (row_at rows instant)
-
--- the room for its attempts
-abbrev pub room_in_row : Option Row → ℕ
-room_in_row None = 0
-room_in_row (Some row) = row.attempts.room
-
-abbrev pub room_at : List Row → ℕ → ℕ
-room_at rows instant = room_in_row (row_at rows instant)
 
 -- its instant and chosen moment
 abbrev pub pair_of : Row → Pair
@@ -81,20 +64,18 @@ abbrev pub IsBehind : List Row → ℕ → Type 0
 IsBehind rows instant = (j : ℕ) → j < length rows → slice_index (instants_in rows) j < instant
 
 -- numbers that the sums of a standing have room for
-pub record IsSmallRow (row : Row) : Type 0 where
-  pub chosen : row.filed.entry.chosen ≤ LAST_CHOSEN
-  pub last : last_at row.filed.entry.last ≤ LAST_CHOSEN
-  pub retries : row.filed.policy.retries ≤ 255
+pub record IsSmallFiled (filed : Filed) : Type 0 where
+  pub chosen : filed.entry.chosen ≤ LAST_CHOSEN
+  pub last : last_at filed.entry.last ≤ LAST_CHOSEN
+  pub retries : filed.policy.retries ≤ 255
+
+abbrev pub IsSmallRow : Row → Type 0
+IsSmallRow row = IsSmallFiled row.filed
 
 -- a lane's entries rise, and their numbers are small
 pub record IsLane (rows : List Row) : Type 0 where
   pub rising : IsRising rows
   pub small : All IsSmallRow rows
-
--- a lane has room where its vector has, and never for more than so many entries
-pub record HasLaneRoom (count room capacity : ℕ) : Type 0 where
-  pub kept : count + room ≤ capacity
-  pub few : count + room ≤ MOST_ENTRIES
 
 -- the entry at an instant is changed, and nothing else
 pub record Changes (old new : List Row) (instant : ℕ) (change : Entry → Entry) (grow : List Attempt → List Attempt) : Type 0 where
@@ -102,22 +83,9 @@ pub record Changes (old new : List Row) (instant : ℕ) (change : Entry → Entr
   pub attempts : (k : ℕ) → attempts_at new k ≡ (if k == instant then grow (attempts_at old k) else attempts_at old k)
   pub pairs : pairs_of new ≡ pairs_of old
 
--- the entry of a pair, with no attempt yet
-abbrev pub new_row : Policy → Pair → Row
-new_row policy pair =
-    record { instant = pair.instant; filed = record { entry = new_entry pair.chosen; policy = policy }; attempts = none_kept }
-
 -- the entry once it is cancelled
 abbrev pub cancelled_row : Row → Row
 cancelled_row row = record row { filed = on_entry (decided_as outcomes.Cancelled) row.filed }
-
--- the entry once its attempt is lost, where that is live
-abbrev pub lost_row : ℕ → Row → Row
-lost_row at row =
-    record row {
-      filed = on_entry (with_loss at) row.filed;
-      attempts = record row.attempts { attempts = map lose_attempt row.attempts.attempts };
-    }
 
 -- pairs that may be entered behind others: they come after those, they rise, and are chosen at moments of the calendar
 pub record IsEntrance (old new : List Pair) : Type 0 where

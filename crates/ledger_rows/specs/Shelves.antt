@@ -6,7 +6,8 @@ use Rattle.min_tree.specs.declared.nodes.TheConstants.{ABOVE_ALL}
 use Rattle.plain_words.specs.Ids.{shard_of}
 use Rattle.plain_words.specs.declared.limits.TheConstants.{SHARDS}
 use Rattle.ledger_rows.specs.Numbers.{lane_number}
-use Rattle.ledger_rows.specs.Rows.{IsSmallRow, LaneRows}
+use Rattle.ledger_rows.specs.Rows.{IsSmallRow}
+use Rattle.entry_lines.specs.Rows.{LaneRows}
 use Rattle.ledger_rows.specs.State.{lane_of}
 
 abbrev pub no_numbers : Numbers

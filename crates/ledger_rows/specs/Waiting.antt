@@ -3,7 +3,7 @@ use Rattle.std.specs.Prelude.{ℕ, nat_lt, ◌==◌, Bool, ◌&&◌, ◌||◌, i
 use Rattle.plain_words.specs.Ids.{shard_of}
 use Rattle.ledger_rows.specs.declared.question.Question.TheVariants as questions
 use Rattle.ledger_rows.specs.declared.row.Flight.{Flight}
-use Rattle.ledger_rows.specs.Rows.{LaneRows}
+use Rattle.entry_lines.specs.Rows.{LaneRows}
 use Rattle.ledger_rows.specs.State.{filed_in}
 use Rattle.ledger_rows.specs.Wanting.{answers}
 

@@ -1,13 +1,14 @@
 //! The ledger as its callers see it.
-ghost use Rattle.std.specs.Prelude.{◌≡◌, ℕ, ◌+◌, ◌-◌, ◌≤◌, ◌<◌, true, Some, None, IfNone, IsSome, List, [], ◌∷◌, ◌++◌, map, length, vec_len, vec_capacity, IfSome, OnOk};
+ghost use Rattle.std.specs.Prelude.{◌≡◌, ℕ, ◌+◌, ◌-◌, ◌≤◌, ◌<◌, ◌&&◌, true, Some, None, IfNone, IsSome, List, [], ◌∷◌, ◌++◌, map, length, vec_len, vec_capacity, IfSome, OnOk};
 ghost use Rattle.plain_words.specs.Lists.{last, some_pass, numbers};
 ghost use Rattle.std.specs.Option.{option_map};
 ghost use Rattle.sched_plain.specs.Ledger.{LedgerCall, Entered, Begun, Finished, Closed, Cancelled, Lost};
 ghost use Rattle.sched_plain.specs.Attempts.{begun_attempt, end_attempt, lose_attempt, is_live_attempt, is_live_last, attempts};
 ghost use Rattle.sched_plain.specs.Entries.{with_begin, with_end, with_loss, decided_as, outcome_of, is_lost_in, entries, filed, instants_of, undecided};
-ghost use Rattle.ledger_rows.specs.Rows.{LaneRows, room_at, row_at, open_in, IsEntrance, IsSmallRow};
-ghost use Rattle.ledger_rows.specs.Air.{but_for, flight_of, is_of, outside, live_in, airborne};
-ghost use Rattle.ledger_rows.specs.State.{filed_in, pairs_in, attempts_in, lane_of, is_closable, ChangesIn, Tells, RowsAre, same_rows, rows_entered, rows_cancelled, rows_lost, rows_lost_at, lane_standings};
+ghost use Rattle.ledger_rows.specs.Rows.{open_in, IsEntrance, IsSmallFiled};
+ghost use Rattle.entry_lines.specs.Rows.{LaneRows};
+ghost use Rattle.ledger_rows.specs.Air.{but_for, flight_of, is_of, is_flown, outside, live_in, airborne};
+ghost use Rattle.ledger_rows.specs.State.{filed_in, pairs_in, attempts_in, lane_of, is_closable, ChangesIn, Tells, RowsAre, same_rows, rows_entered, rows_cancelled, lane_standings, Loses};
 ghost use Rattle.ledger_rows.specs.Shelves.{AreShelved};
 ghost use Rattle.ledger_rows.specs.Numbers.{bound_at, lane_number};
 ghost use Rattle.ledger_rows.specs.Wanting.{answers, IsFirstIn, IsFirstOf};
@@ -18,9 +19,9 @@ ghost use Rattle.std.specs.List.{flat_map};
 ghost use Rattle.ledger_rows.specs.Counting.{is_kind, IsWithin, entry_counts, counted};
 
 use crate::counts::{EntryCounts, Kind};
-use crate::lane::{Lane, may_follow, row_of};
+use crate::lane::{Lane, attempts_of, filed_of};
 use crate::question::Question;
-use crate::row::{Flight, Row};
+use crate::row::Flight;
 use crate::shelves::{first_place, note, plant, put_place, reserve_place};
 use crate::waiting::first_live_of;
 use crate::wants::bound_at;
@@ -46,14 +47,14 @@ pub struct Ledger {
 
 impl Model for Ledger {
     ghost use Rattle.std.specs.Prelude.{◌-◌, ◌≤◌, length, vec_len, vec_capacity};
-    ghost use Rattle.ledger_rows.specs.State.{State, AreFlown};
+    ghost use Rattle.ledger_rows.specs.State.{State, AreFlown, AreLast};
     ghost use Rattle.ledger_rows.specs.Shelves.{AreShelved};
 
     ghost Value = { State };
 
     ghost view = { λ l. record { lanes = l.lanes.items; flights = l.flights.items; room = vec_capacity l.flights - vec_len l.flights } };
 
-    ghost invariant = { λ l. (length l.lanes.items ≤ 4294967296) × AreShelved l.lanes.items l.shelves.items × AreFlown l.lanes.items l.flights.items };
+    ghost invariant = { λ l. (length l.lanes.items ≤ 4294967296) × AreShelved l.lanes.items l.shelves.items × AreFlown l.lanes.items l.flights.items × AreLast l.lanes.items };
 }
 
 impl Ledger {
@@ -98,7 +99,7 @@ impl Ledger {
         ensures room { OnOk result (HasBeginRoom self.new inc instant) }
     {
         self.flights.reserve(1)?;
-        room_in(&mut self.lanes, &mut self.shelves, inc, instant)
+        room_in(&mut self.lanes, inc)
     }
 
     /// The next attempt of an occurrence begins at a moment, with the epoch of the one who sends it; its number, from 1, is
@@ -176,7 +177,8 @@ impl Ledger {
         ensures stands { (calls : List LedgerCall) → Stands self.old calls → Stands self.new (Lost shard at.0 ∷ calls) }
         ensures air { self.new.flights ≡ outside shard self.old.flights }
     {
-        lose_in(&mut self.lanes, &mut self.shelves, shard, at);
+        let shelves = &mut self.shelves;
+        lose_in(&mut self.lanes, shelves, &self.flights, shard, at);
         drop_lost(&mut self.flights, shard);
     }
 
@@ -185,18 +187,15 @@ impl Ledger {
         ensures seen { result ≡ filed_in self.now.lanes inc instant }
         ensures stands { (calls : List LedgerCall) → Stands self.now calls → result ≡ filed calls inc instant }
     {
-        match row_of(&self.lanes, inc, instant) {
-            Some(row) => Some(row.filed),
-            None => None,
-        }
+        filed_of(&self.lanes, inc, instant)
     }
 
     /// Whether the next attempt of an occurrence may begin at a moment: its entry is due.
     pub fn is_due(&self, inc: u32, instant: u64, at: Moment) -> bool
         ensures { result ≡ some_pass (λ f. is_due (standing_of f at.0)) (filed_in self.now.lanes inc instant) }
     {
-        match row_of(&self.lanes, inc, instant) {
-            Some(row) => is_due(row, at),
+        match filed_of(&self.lanes, inc, instant) {
+            Some(filed) => is_due(&filed, at),
             None => false,
         }
     }
@@ -205,8 +204,8 @@ impl Ledger {
     pub fn standing(&self, inc: u32, instant: u64, at: Moment) -> Option<Standing>
         ensures { result ≡ option_map {T = TheFiled} (λ f. standing_of f at.0) (filed_in self.now.lanes inc instant) }
     {
-        match row_of(&self.lanes, inc, instant) {
-            Some(row) => Some(standing(&row.filed.entry, row.filed.policy, at)),
+        match filed_of(&self.lanes, inc, instant) {
+            Some(filed) => Some(standing(&filed.entry, filed.policy, at)),
             None => None,
         }
     }
@@ -215,8 +214,8 @@ impl Ledger {
     pub fn is_live(&self, inc: u32, instant: u64, number: u16) -> bool
         ensures { result ≡ is_live_attempt (filed_in self.now.lanes inc instant) number }
     {
-        match row_of(&self.lanes, inc, instant) {
-            Some(row) => row.filed.entry.used == number && is_live(row.filed.entry.last),
+        match filed_of(&self.lanes, inc, instant) {
+            Some(filed) => filed.entry.used == number && is_live(filed.entry.last),
             None => false,
         }
     }
@@ -225,8 +224,8 @@ impl Ledger {
     pub fn is_closable(&self, inc: u32, instant: u64) -> bool
         ensures { result ≡ some_pass is_closable (filed_in self.now.lanes inc instant) }
     {
-        match row_of(&self.lanes, inc, instant) {
-            Some(row) => row.filed.entry.outcome.is_none() && !is_live(row.filed.entry.last),
+        match filed_of(&self.lanes, inc, instant) {
+            Some(filed) => filed.entry.outcome.is_none() && !is_live(filed.entry.last),
             None => false,
         }
     }
@@ -241,12 +240,11 @@ impl Ledger {
     }
 
     /// The entry of an occurrence.
-    pub fn entry(&self, inc: u32, instant: u64) -> Option<&Entry>
-        ensures some { (calls : List LedgerCall) → Stands self.now calls → IfSome result (λ entry. option_map (λ f. f.entry) (filed calls inc instant) ≡ Some entry.now) }
-        ensures none { (calls : List LedgerCall) → Stands self.now calls → IfNone result (filed calls inc instant ≡ None) }
+    pub fn entry(&self, inc: u32, instant: u64) -> Option<Entry>
+        ensures { (calls : List LedgerCall) → Stands self.now calls → result ≡ option_map {T = TheFiled} (λ f. f.entry) (filed calls inc instant) }
     {
-        match row_of(&self.lanes, inc, instant) {
-            Some(row) => Some(&row.filed.entry),
+        match filed_of(&self.lanes, inc, instant) {
+            Some(filed) => Some(filed.entry),
             None => None,
         }
     }
@@ -255,10 +253,7 @@ impl Ledger {
     pub fn attempts(&self, inc: u32, instant: u64) -> &[Attempt]
         ensures { (calls : List LedgerCall) → Stands self.now calls → result.now ≡ attempts calls inc instant }
     {
-        match row_of(&self.lanes, inc, instant) {
-            Some(row) => row.attempts.as_slice(),
-            None => &[],
-        }
+        attempts_of(&self.lanes, inc, instant)
     }
 
     /// The first occurrence of a shard, by incarnation and instant, whose chosen moment has come and whose entry is
@@ -447,33 +442,57 @@ fn cancel_in(lanes: &mut Vec<Lane>, shelves: &mut Vec<MinTree>, inc: u32)
     }
 }
 
-fn lose_in(lanes: &mut Vec<Lane>, shelves: &mut Vec<MinTree>, shard: Option<u8>, at: Moment)
+/// The attempts of these flights are lost: those of a shard, or all where none is named.
+fn lose_in(
+    lanes: &mut Vec<Lane>,
+    shelves: &mut Vec<MinTree>,
+    flights: &[Flight],
+    shard: Option<u8>,
+    at: Moment,
+)
     requires shelved { AreShelved lanes.old.items shelves.old.items }
-    requires few { length lanes.old.items ≤ 4294967296 }
     requires at { at.0 ≤ LAST_MOMENT }
     ensures shelved { AreShelved lanes.new.items shelves.new.items }
     ensures length { length lanes.new.items ≡ length lanes.old.items }
-    ensures rows { RowsAre lanes.old.items lanes.new.items (rows_lost shard at.0) }
+    ensures loses { Loses lanes.old.items lanes.new.items (λ i k. is_lost_in shard i && is_flown flights.now i k) at.0 }
 {
-    for place in 0..lanes.len() {
-        if is_lost_in(shard, place as u32) {
-            lose_lane(lanes, shelves, place as u32, at);
-        }
+    for flight in flights {
+        lose_flight(lanes, shelves, *flight, shard, at);
     }
 }
 
-/// The attempts of an incarnation are lost.
-fn lose_lane(lanes: &mut Vec<Lane>, shelves: &mut Vec<MinTree>, inc: u32, at: Moment)
+/// The attempt of a flight is lost, where it is of the shard or none is named.
+fn lose_flight(
+    lanes: &mut Vec<Lane>,
+    shelves: &mut Vec<MinTree>,
+    flight: Flight,
+    shard: Option<u8>,
+    at: Moment,
+)
     requires shelved { AreShelved lanes.old.items shelves.old.items }
-    requires there { inc < length lanes.old.items }
     requires at { at.0 ≤ LAST_MOMENT }
     ensures shelved { AreShelved lanes.new.items shelves.new.items }
     ensures length { length lanes.new.items ≡ length lanes.old.items }
-    ensures rows { RowsAre lanes.old.items lanes.new.items (rows_lost_at inc at.0) }
+    ensures loses { Loses lanes.old.items lanes.new.items (λ i k. is_lost_in shard i && is_of i k flight) at.0 }
 {
-    let lane = &mut lanes[inc as usize];
-    lane.lose(at);
-    note(shelves, inc, lane.least());
+    if is_lost_in(shard, flight.inc) {
+        lose_at(lanes, shelves, flight.inc, flight.instant, at);
+    }
+}
+
+/// The attempt of an occurrence is lost, where it is live.
+fn lose_at(lanes: &mut Vec<Lane>, shelves: &mut Vec<MinTree>, inc: u32, instant: u64, at: Moment)
+    requires shelved { AreShelved lanes.old.items shelves.old.items }
+    requires at { at.0 ≤ LAST_MOMENT }
+    ensures shelved { AreShelved lanes.new.items shelves.new.items }
+    ensures length { length lanes.new.items ≡ length lanes.old.items }
+    ensures changes { ChangesIn lanes.old.items lanes.new.items inc instant (with_loss at.0) (map lose_attempt) }
+{
+    if (inc as usize) < lanes.len() {
+        let lane = &mut lanes[inc as usize];
+        lane.lose(instant, at);
+        note(shelves, inc, lane.least());
+    }
 }
 
 /// Whether an incarnation is of the shard, or none is named.
@@ -490,14 +509,7 @@ fn is_lost_in(shard: Option<u8>, inc: u32) -> bool
 fn drop_lost(flights: &mut Vec<Flight>, shard: Option<u8>)
     ensures { flights.new.items ≡ outside shard flights.old.items }
 {
-    let mut place = 0;
-    while place < flights.len() {
-        if is_lost_in(shard, flights[place].inc) {
-            let _ = flights.remove(place);
-        } else {
-            place += 1;
-        }
-    }
+    flights.retain(|flight| !is_lost_in(shard, flight.inc));
 }
 
 fn count_in(flights: &[Flight], shard: Option<u8>) -> u64
@@ -512,11 +524,11 @@ fn count_in(flights: &[Flight], shard: Option<u8>) -> u64
     count
 }
 
-fn is_due(row: &Row, at: Moment) -> bool
-    requires { IsSmallRow row.now }
-    ensures { result ≡ is_due (standing_of row.now.filed at.0) }
+fn is_due(filed: &Filed, at: Moment) -> bool
+    requires { IsSmallFiled filed.now }
+    ensures { result ≡ is_due (standing_of filed.now at.0) }
 {
-    match standing(&row.filed.entry, row.filed.policy, at) {
+    match standing(&filed.entry, filed.policy, at) {
         Standing::Due => true,
         _ => false,
     }
@@ -531,37 +543,29 @@ fn is_live(last: Last) -> bool
     }
 }
 
-fn may_enter_in(lanes: &[Lane], inc: u32, pairs: &[Pair]) -> bool
-    ensures says { result ≡ true → IsEntrance (pairs_in lanes.now inc) pairs.now }
-    ensures all { IsEntrance (pairs_in lanes.now inc) pairs.now → result ≡ true }
+fn may_enter_in(lanes: &Vec<Lane>, inc: u32, pairs: &[Pair]) -> bool
+    ensures says { result ≡ true → IsEntrance (pairs_in lanes.now.items inc) pairs.now }
+    ensures all { IsEntrance (pairs_in lanes.now.items inc) pairs.now → result ≡ true }
 {
     if inc as usize >= lanes.len() {
-        return may_follow(&[], pairs);
+        let alloc: Global = *lanes.allocator();
+        return Lane::new(alloc).may_enter(pairs);
     }
     let lane = &lanes[inc as usize];
     lane.may_enter(pairs)
 }
 
 /// Makes room for an attempt of an occurrence, where that has an entry.
-fn room_in(
-    lanes: &mut Vec<Lane>,
-    shelves: &mut Vec<MinTree>,
-    inc: u32,
-    instant: u64,
-) -> Result<(), AllocError>
-    requires shelved { AreShelved lanes.old.items shelves.old.items }
-    ensures shelved { AreShelved lanes.new.items shelves.new.items }
+fn room_in(lanes: &mut Vec<Lane>, inc: u32) -> Result<(), AllocError>
+    ensures rows { RowsAre lanes.old.items lanes.new.items same_rows }
     ensures length { length lanes.new.items ≡ length lanes.old.items }
-    ensures same { Tells lanes.new.items (filed_in lanes.old.items) (pairs_in lanes.old.items) (attempts_in lanes.old.items) }
-    ensures room { OnOk result (IsSome (filed_in lanes.new.items inc instant) → 1 ≤ room_at (lane_of lanes.new.items inc).rows instant) }
+    ensures room { OnOk result (inc < length lanes.new.items → 1 ≤ (lane_of lanes.new.items inc).begins) }
 {
     if inc as usize >= lanes.len() {
         return Ok(());
     }
     let lane = &mut lanes[inc as usize];
-    let made = lane.reserve_begin(instant);
-    note(shelves, inc, lane.least());
-    made
+    lane.reserve_begin()
 }
 
 /// The first occurrence of a shard whose chosen moment has come and whose entry is exhausted or due.
@@ -601,7 +605,7 @@ fn begin_in(
     at: Moment,
 ) -> u16
     requires shelved { AreShelved lanes.old.items shelves.old.items }
-    requires room { IsSome (filed_in lanes.old.items inc instant) → 1 ≤ room_at (lane_of lanes.old.items inc).rows instant }
+    requires room { IsSome (filed_in lanes.old.items inc instant) → 1 ≤ (lane_of lanes.old.items inc).begins }
     requires due { some_pass (λ f. is_due (standing_of f at.0)) (filed_in lanes.old.items inc instant) ≡ true }
     requires at { at.0 ≤ LAST_MOMENT }
     ensures shelved { AreShelved lanes.new.items shelves.new.items }
@@ -670,14 +674,7 @@ fn put_last(flights: &mut Vec<Flight>, flight: Flight)
 fn land(flights: &mut Vec<Flight>, inc: u32, instant: u64)
     ensures { flights.new.items ≡ but_for inc instant flights.old.items }
 {
-    let mut place = 0;
-    while place < flights.len() {
-        if is_of(flights[place], inc, instant) {
-            let _ = flights.remove(place);
-        } else {
-            place += 1;
-        }
-    }
+    flights.retain(|flight| !is_of(*flight, inc, instant));
 }
 
 fn is_of(flight: Flight, inc: u32, instant: u64) -> bool

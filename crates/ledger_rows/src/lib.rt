@@ -5,7 +5,7 @@
 //! attempt's end. When an entry is entered, begun or closed is for the caller to judge, by what `filed` tells.
 #![tactic(auto)]
 
-mod attempts_kept;
+mod blocks;
 mod counts;
 mod lane;
 mod ledger;

@@ -1,12 +1,12 @@
-//! One entry, and one attempt in the air.
-ghost use Rattle.std.specs.Prelude.{◌≡◌, ◌≤◌, ◌+◌, ◌<◌, [], ◌∷◌, ◌++◌, map, OnOk};
-ghost use Rattle.sched_plain.specs.Attempts.{begun_attempt, end_attempt, lose_attempt};
-ghost use Rattle.sched_plain.specs.Entries.{on_entry, with_begin, with_end, with_loss, decided_as, outcome_of};
-ghost use Rattle.ledger_rows.specs.Rows.{cancelled_row, lost_row};
+//! What becomes of one entry, and one attempt in the air.
+ghost use Rattle.std.specs.Prelude.{◌≡◌, ◌<◌, map, length, slice_set};
+ghost use Rattle.sched_plain.specs.Attempts.{end_attempt, lose_attempt};
+ghost use Rattle.sched_plain.specs.Entries.{with_end, with_loss, decided_as, outcome_of};
+ghost use Rattle.entry_lines.specs.Rows.{changed, row_there};
+ghost use Rattle.ledger_rows.specs.Rows.{cancelled_row};
 
-use crate::attempts_kept::AttemptsKept;
-use sched_plain::{Entry, Filed, Last, Moment, Outcome, Reason, Verdict};
-use std::alloc::AllocError;
+use entry_lines::EntryLines;
+use sched_plain::{Entry, Last, Moment, Outcome, Reason, Verdict};
 
 /// An attempt in the air: begun, and neither ended nor lost.
 #[derive(Debug, Clone, Copy, PartialEq, Eq)]
@@ -14,14 +14,6 @@ pub struct Flight {
     pub inc: u32,
     pub instant: u64,
     pub number: u16,
-}
-
-/// What is kept of one occurrence.
-#[derive(Drop)]
-pub struct Row {
-    pub instant: u64,
-    pub filed: Filed,
-    pub attempts: AttemptsKept,
 }
 
 fn decided_as(entry: Entry, outcome: Outcome) -> Entry
@@ -71,64 +63,65 @@ fn outcome_of(reason: Reason) -> Outcome
     }
 }
 
-/// Makes room for one more attempt.
-pub fn reserve(row: &mut Row) -> Result<(), AllocError>
-    ensures instant { row.new.instant ≡ row.old.instant }
-    ensures filed { row.new.filed ≡ row.old.filed }
-    ensures attempts { row.new.attempts.attempts ≡ row.old.attempts.attempts }
-    ensures room { OnOk result (1 ≤ row.new.attempts.room) }
+/// The attempt of this number of the entry at a place ends.
+pub fn end(
+    rows: &mut EntryLines,
+    place: usize,
+    number: u16,
+    verdict: Verdict,
+    status: u16,
+    at: Moment,
+)
+    requires { place < length rows.old.rows }
+    ensures rows { rows.new.rows ≡ slice_set rows.old.rows place (changed (with_end verdict at.0) (map (end_attempt number verdict status)) (row_there rows.old.rows place)) }
+    ensures room { rows.new.room ≡ rows.old.room }
 {
-    row.attempts.reserve()
+    let filed = rows.filed(place);
+    rows.end(
+        place,
+        number,
+        verdict,
+        status,
+        with_end(filed.entry, verdict, at.0),
+    );
 }
 
-/// The next attempt begins; its number is answered.
-pub fn begin(row: &mut Row, epoch: u64, at: Moment) -> u16
-    requires room { 1 ≤ row.old.attempts.room }
-    requires few { row.old.filed.entry.used < 65535 }
-    ensures number { result ≡ row.old.filed.entry.used + 1 }
-    ensures instant { row.new.instant ≡ row.old.instant }
-    ensures filed { row.new.filed ≡ on_entry (with_begin at.0) row.old.filed }
-    ensures attempts { row.new.attempts.attempts ≡ row.old.attempts.attempts ++ begun_attempt result at.0 epoch ∷ [] }
+/// The attempt of the entry at a place is lost, where it is live.
+pub fn lose(rows: &mut EntryLines, place: usize, at: Moment)
+    requires { place < length rows.old.rows }
+    ensures rows { rows.new.rows ≡ slice_set rows.old.rows place (changed (with_loss at.0) (map lose_attempt) (row_there rows.old.rows place)) }
+    ensures room { rows.new.room ≡ rows.old.room }
 {
-    let number = row.filed.entry.used + 1;
-    row.attempts.begin(number, epoch, at);
-    row.filed.entry.used = number;
-    row.filed.entry.last = Last::Live { at: at.0 };
-    number
+    let filed = rows.filed(place);
+    rows.lose(place, with_loss(filed.entry, at.0));
 }
 
-/// The attempt of this number ends.
-pub fn end(row: &mut Row, number: u16, verdict: Verdict, status: u16, at: Moment)
-    ensures instant { row.new.instant ≡ row.old.instant }
-    ensures filed { row.new.filed ≡ on_entry (with_end verdict at.0) row.old.filed }
-    ensures attempts { row.new.attempts.attempts ≡ map (end_attempt number verdict status) row.old.attempts.attempts }
-    ensures room { row.new.attempts.room ≡ row.old.attempts.room }
+/// The entry at a place is decided, where it is not yet.
+fn decide(rows: &mut EntryLines, place: usize, outcome: Outcome)
+    requires { place < length rows.old.rows }
+    ensures rows { rows.new.rows ≡ slice_set rows.old.rows place (changed (decided_as outcome) (λ before. before) (row_there rows.old.rows place)) }
+    ensures room { rows.new.room ≡ rows.old.room }
+    ensures begins { rows.new.begins ≡ rows.old.begins }
 {
-    row.attempts.end(number, verdict, status);
-    row.filed.entry = with_end(row.filed.entry, verdict, at.0);
+    let filed = rows.filed(place);
+    rows.write(place, decided_as(filed.entry, outcome));
 }
 
-/// The entry's attempt is lost, where it is live.
-pub fn lose(row: &mut Row, at: Moment)
-    ensures { row.new ≡ lost_row at.0 row.old }
+/// The entry at a place is closed.
+pub fn close(rows: &mut EntryLines, place: usize, reason: Reason)
+    requires { place < length rows.old.rows }
+    ensures rows { rows.new.rows ≡ slice_set rows.old.rows place (changed (decided_as (outcome_of reason)) (λ before. before) (row_there rows.old.rows place)) }
+    ensures room { rows.new.room ≡ rows.old.room }
 {
-    row.attempts.lose();
-    row.filed.entry = with_loss(row.filed.entry, at.0);
+    decide(rows, place, outcome_of(reason));
 }
 
-/// The entry is closed.
-pub fn close(row: &mut Row, reason: Reason)
-    ensures instant { row.new.instant ≡ row.old.instant }
-    ensures filed { row.new.filed ≡ on_entry (decided_as (outcome_of reason)) row.old.filed }
-    ensures attempts { row.new.attempts.attempts ≡ row.old.attempts.attempts }
-    ensures room { row.new.attempts.room ≡ row.old.attempts.room }
+/// The entry at a place is cancelled.
+pub fn cancel(rows: &mut EntryLines, place: usize)
+    requires { place < length rows.old.rows }
+    ensures rows { rows.new.rows ≡ slice_set rows.old.rows place (cancelled_row (row_there rows.old.rows place)) }
+    ensures room { rows.new.room ≡ rows.old.room }
+    ensures begins { rows.new.begins ≡ rows.old.begins }
 {
-    row.filed.entry = decided_as(row.filed.entry, outcome_of(reason));
-}
-
-/// The entry is cancelled.
-pub fn cancel(row: &mut Row)
-    ensures { row.new ≡ cancelled_row row.old }
-{
-    row.filed.entry = decided_as(row.filed.entry, Outcome::Cancelled);
+    decide(rows, place, Outcome::Cancelled);
 }

@@ -1,15 +1,15 @@
 //! The first occurrence whose attempt is waited for, found among the attempts in the air.
 ghost use Rattle.std.specs.Prelude.{◌≡◌, ◌≤◌, IfSome, IfNone, Some, None};
-ghost use Rattle.ledger_rows.specs.Rows.{row_at, IsSmallRow};
+ghost use Rattle.ledger_rows.specs.Rows.{IsSmallFiled};
 ghost use Rattle.ledger_rows.specs.State.{AreFlown, filed_in, lane_of};
 ghost use Rattle.ledger_rows.specs.Waiting.{earlier, first_with, is_waited};
 ghost use Rattle.ledger_rows.specs.Wanting.{IsFirstOf, answers, asks};
 
-use crate::lane::{Lane, row_of};
+use crate::lane::{Lane, filed_of};
 use crate::question::Question;
-use crate::row::{Flight, Row};
+use crate::row::Flight;
 use policy_rules::standing;
-use sched_plain::{Moment, Standing, shard_of};
+use sched_plain::{Filed, Moment, Standing, shard_of};
 
 /// The first occurrence of a shard, by incarnation and instant, whose entry is live.
 pub fn first_live_of(lanes: &[Lane], flights: &[Flight], shard: u8) -> Option<(u32, u64)>
@@ -42,18 +42,18 @@ fn first_with(
 fn is_waited(lanes: &[Lane], flight: Flight) -> bool
     ensures { result ≡ is_waited lanes.now flight.inc flight.instant }
 {
-    match row_of(lanes, flight.inc, flight.instant) {
-        Some(row) => is_live(row),
+    match filed_of(lanes, flight.inc, flight.instant) {
+        Some(filed) => is_live(&filed),
         None => false,
     }
 }
 
 /// Whether an entry is live; no moment changes that.
-fn is_live(row: &Row) -> bool
-    requires { IsSmallRow row.now }
-    ensures { result ≡ asks Question.ToWait row.now.filed }
+fn is_live(filed: &Filed) -> bool
+    requires { IsSmallFiled filed.now }
+    ensures { result ≡ asks Question.ToWait filed.now }
 {
-    match standing(&row.filed.entry, row.filed.policy, Moment(0)) {
+    match standing(&filed.entry, filed.policy, Moment(0)) {
         Standing::Live => true,
         _ => false,
     }

@@ -1,12 +1,11 @@
 //! The number that an entry is found by: the moment from which on something is to be done for it.
 ghost use Rattle.std.specs.Prelude.{◌≡◌, ◌≤◌};
 ghost use Rattle.ledger_rows.specs.Numbers.{bound_at, wants, wants_at};
-ghost use Rattle.ledger_rows.specs.Rows.{IsSmallRow};
+ghost use Rattle.ledger_rows.specs.Rows.{IsSmallFiled};
 
-use crate::row::Row;
 use min_tree::ABOVE_ALL;
 use policy_rules::standing;
-use sched_plain::{Moment, Standing};
+use sched_plain::{Filed, Moment, Standing};
 
 /// The number of an entry whose attempt is in the air. That of a decided one is `ABOVE_ALL`.
 pub const IN_AIR: u64 = ABOVE_ALL - 1;
@@ -16,13 +15,13 @@ const LAST_BOUND: u64 = ABOVE_ALL - 2;
 
 /// The number of an entry.
 #[tactic(auto, unfolding(crate::specs::Numbers::wants))]
-pub fn wants(row: &Row) -> u64
-    requires { IsSmallRow row.now }
-    ensures { result ≡ wants row.now.filed }
+pub fn wants(filed: &Filed) -> u64
+    requires { IsSmallFiled filed.now }
+    ensures { result ≡ wants filed.now }
 {
     // At moment 0 no age is past, but for that of a wait that ends beyond it.
-    let standing = standing(&row.filed.entry, row.filed.policy, Moment(0));
-    wants_at(standing, row.filed.entry.chosen)
+    let standing = standing(&filed.entry, filed.policy, Moment(0));
+    wants_at(standing, filed.entry.chosen)
 }
 
 fn wants_at(standing: Standing, chosen: u64) -> u64

@@ -135,3 +135,28 @@ fn final_verdict_decides(rt: HostRuntime) -> Result<(), Fail> {
     assert!(rt; !ledger.is_closable(1, 1000));
     Ok(())
 }
+
+#[test]
+fn shard_loses_all_of_its_attempts(rt: HostRuntime) -> Result<(), Fail> {
+    let mut ledger = Ledger::new(rt.alloc());
+    let pairs = pairs_of(rt.alloc(), &[(1000, 1000), (1060, 1060)])?;
+    for inc in [2, 3, 10] {
+        assert!(rt; enter(&mut ledger, inc, policy(1, 86400), &pairs)?);
+        assert_eq!(rt; begin(&mut ledger, inc, 1060, 1060)?, Some(1));
+    }
+    assert_eq!(rt; begin(&mut ledger, 2, 1000, 1060)?, Some(1));
+    ledger.cancel(10);
+    ledger.lose(Some(2), Moment(1100));
+    assert_eq!(rt; ledger.live(None), 1);
+    assert_eq!(rt; ledger.first_live(3), Some((3, 1060)));
+    assert_eq!(rt; ledger.first_due(2, Moment(1100)), None);
+    assert_eq!(rt; ledger.first_due(2, Moment(1101)), Some((2, 1000)));
+    for (inc, instant) in [(2, 1000), (2, 1060), (10, 1060)] {
+        let attempts = ledger.attempts(inc, instant);
+        assert_eq!(rt; attempts.len(), 1);
+        for attempt in attempts {
+            assert_eq!(rt; attempt.fate, Fate::Lost);
+        }
+    }
+    Ok(())
+}

@@ -1,7 +1,7 @@
 //! Makes a ledger of decided entries, and asks it over and over, for bench/ to time.
 //! `ledger_times WORK DECIDED ROUNDS [timed]`: WORK is `due`, where the first due entry is asked for beside one that is
-//! due, or `end`, where in each round an entry is entered, begun and ended. It prints a sum of what was answered, or with
-//! `timed` the nanoseconds of the questions or of the ends.
+//! due, or `end` or `lose`, where in each round an entry is entered, begun and ended, or its attempt lost. It prints a sum
+//! of what was answered, or with `timed` the nanoseconds of the questions, the ends or the losses.
 #![tactic(auto)]
 
 mod lives;
@@ -13,7 +13,7 @@ use sched_plain::Moment;
 use std::env;
 use std::time::Instant;
 
-const USAGE: &str = "usage: ledger_times due|end DECIDED ROUNDS [timed]";
+const USAGE: &str = "usage: ledger_times due|end|lose DECIDED ROUNDS [timed]";
 
 /// The incarnation whose entries they are.
 const INC: u32 = 1;
@@ -58,11 +58,27 @@ fn end(rt: &HostRuntime, count: u64, rounds: u64) -> anyhow::Result<(u64, u128)>
     Ok((rounds, spent))
 }
 
+/// Enters, begins and loses an entry: how many, and the nanoseconds of the losses.
+fn lose(rt: &HostRuntime, count: u64, rounds: u64) -> anyhow::Result<(u64, u128)> {
+    let mut ledger = decided(rt, count)?;
+    let mut spent: u128 = 0;
+    for round in 0..rounds {
+        let instant = count.wrapping_add(round);
+        entered(rt.alloc(), &mut ledger, INC, instant)?;
+        begun(&mut ledger, INC, instant)?;
+        let start = Instant::now(rt)?;
+        ledger.lose(Some(1), Moment(0));
+        spent = spent.wrapping_add(start.elapsed(rt)?.as_nanos());
+    }
+    Ok((rounds, spent))
+}
+
 /// Does what the words after the program's name say.
 fn run(rt: &HostRuntime, work: &str, count: u64, rounds: u64) -> anyhow::Result<(u64, u128)> {
     match work {
         "due" => ask(rt, count, rounds),
         "end" => end(rt, count, rounds),
+        "lose" => lose(rt, count, rounds),
         _ => bail!("{USAGE}"),
     }
 }

@@ -15,6 +15,7 @@ use Rattle.sched_rows.specs.State.{Kept, rows_in, lives_at}
 use Rattle.sched_rows.specs.Order.{numbered, numbers_in, IsRising, IsPlace}
 use Rattle.sched_rows.specs.Groups.{with_group_ended, change_all}
 use Rattle.sched_rows.specs.Spans.{IsSpanned, AllSpanned}
+use Rattle.sched_rows.specs.declared.edge.Edge.TheVariants as edges
 use Rattle.sched_rows.specs.Filing.{comes_short, living_rows, row_before, in_order, has_names, IsFiled}
 use Rattle.sched_rows.proofs.OrderLemmas.{is_apart, before_first, filter_sorted, sorted_map, sorted_push, insert_put, rising_put, rising_map, rising_filter, all_sorted}
 use Rattle.sched_rows.proofs.NameLemmas.{name_total, same_text_is}
@@ -343,7 +344,7 @@ numbers_append (p ∷ ps) qs = ap (λ (ns : List ℕ). p.0 ∷ ns) (numbers_appe
 
 -- a row that is created is put into the indexes
 pub filed_created : (rows : List Row) (numbers names : List ℕ) (latest at : ℕ) (row : Row) (place n : ℕ) → latest ≤ at → IsFiled rows numbers names latest
-    → row.lives ≡ true → IsSpanned at row → living rows row.group row.name ≡ None → Parted row.group (Some row.name) (in_order rows) place
+    → row.lives ≡ true → IsSpanned at row → living rows row.group row.name ≡ None → Parted row.group row.name edges.Before (in_order rows) place
     → n ≡ length rows + 1 → n ≤ MOST_INCARNATIONS → IsFiled (rows ++ row ∷ []) (numbers ++ n ∷ []) (insert names place n) at
 filed_created rows numbers names latest at row place n le filed lives spanned free parts e few =
     let z : ℕ × Row = (n, row) in
@@ -448,12 +449,12 @@ later_spans kept numbers names latest at le filed = spanned_later latest at (row
 
 -- the row that a creation makes is put into the indexes at its place
 pub filed_born : (kept : List Kept) (k : Kept) (numbers names : List ℕ) (latest at : ℕ) (place n : ℕ) → latest ≤ at → IsFiled (rows_in kept) numbers names latest
-    → k.row.lives ≡ true → IsSpanned at k.row → living (rows_in kept) k.row.group k.row.name ≡ None → IsPlace (comes_short kept k.row.group (Some k.row.name)) names place
+    → k.row.lives ≡ true → IsSpanned at k.row → living (rows_in kept) k.row.group k.row.name ≡ None → IsPlace (comes_short kept k.row.group k.row.name edges.Before) names place
     → n ≡ length kept + 1 → n ≤ MOST_INCARNATIONS → IsFiled (rows_in (kept ++ k ∷ [])) (numbers ++ n ∷ []) (insert names place n) at
 filed_born kept k numbers names latest at place n le filed lives spanned free placed e few =
     subst (λ (rows : List Row). IsFiled rows (numbers ++ n ∷ []) (insert names place n) at) (sym (rows_push kept k))
     (filed_created (rows_in kept) numbers names latest at k.row place n le filed lives spanned free
-    (parted kept names k.row.group (Some k.row.name) place filed.by_name placed) (omega (arith, length_rows kept)) few)
+    (parted kept names k.row.group k.row.name edges.Before place filed.by_name placed) (omega (arith, length_rows kept)) few)
 
 -- the row of a creation
 abbrev pub created_row : Moment → List ℕ → List ℕ → Schedule → Row
@@ -462,10 +463,10 @@ created_row at group name content =
 
 pub filed_made : (kept : List Kept) (k : Kept) (numbers names : List ℕ) (latest : ℕ) (at : Moment) (group name : List ℕ) (content : Schedule) (place n : ℕ) → latest ≤ at.0
     → IsFiled (rows_in kept) numbers names latest → k.row ≡ created_row at group name content → living (rows_in kept) group name ≡ None
-    → IsPlace (comes_short kept group (Some name)) names place → n ≡ length kept + 1 → n ≤ MOST_INCARNATIONS
+    → IsPlace (comes_short kept group name edges.Before) names place → n ≡ length kept + 1 → n ≤ MOST_INCARNATIONS
     → IsFiled (rows_in (kept ++ k ∷ [])) (numbers ++ n ∷ []) (insert names place n) at.0
 filed_made kept k numbers names latest at group name content place n le filed made free placed e few =
     let one : IsSpanned at.0 (created_row at group name content) = record { some = omega arith; front = tt } in
     filed_born kept k numbers names latest at.0 place n le filed (ap (λ (row : Row). row.lives) made) (subst (IsSpanned at.0) (sym made) one)
     (subst (λ (row : Row). living (rows_in kept) row.group row.name ≡ None) (sym made) free)
-    (subst (λ (row : Row). IsPlace (comes_short kept row.group (Some row.name)) names place) (sym made) placed) e few
+    (subst (λ (row : Row). IsPlace (comes_short kept row.group row.name edges.Before) names place) (sym made) placed) e few

@@ -1,8 +1,8 @@
 -- What the creation and the deletion of a group do to the index by name.
-use Rattle.std.proofs.Common.{◌≡◌, ℕ, zero, suc, ◌+◌, ◌-◌, ◌≤◌, ◌<◌, ◌==◌, Bool, true, false, not, ◌&&◌, ◌||◌, Some, None, List, [], ◌∷◌, ◌++◌, map, length, take, drop, get_or, refl, sym, ap, ◌∙◌, subst, arith, cond}
-use Rattle.std.specs.Prelude.{nat_lt}
-use Rattle.std.specs.List.{filter, find, list_all, insert, position, position_or_len}
-use Rattle.std.proofs.lemmas.Bool.{and_parts, and_from, both_ways, false_from_ne_true, eq-eqb, ne_eqb, le-ltb, lt-ltb, ltb-false}
+use Rattle.std.proofs.Common.{◌≡◌, ℕ, zero, suc, ◌+◌, ◌-◌, ◌≤◌, ◌<◌, ◌==◌, Bool, true, false, not, ◌&&◌, ◌||◌, Some, None, List, [], ◌∷◌, ◌++◌, map, length, take, drop, get_or, refl, sym, ap, ◌∙◌, subst, arith, cond, inl, inr}
+use Rattle.std.specs.Prelude.{nat_eq, nat_lt}
+use Rattle.std.specs.List.{filter, find, list_all, insert, position, position_or_len, starts_with}
+use Rattle.std.proofs.lemmas.Bool.{and_parts, and_from, or_cases, both_ways, false_from_ne_true, eq-eqb, ne_eqb, le-ltb, lt-ltb, ltb-false}
 use Rattle.plain_words.proofs.Booleans.{not_there}
 use Rattle.std.proofs.lemmas.List.Quantifiers.{position-Some}
 use Rattle.plain_words.specs.Lists.{nth, some_pass}
@@ -10,10 +10,12 @@ use Rattle.plain_words.specs.declared.limits.TheConstants.{MOST_GROUPS}
 use Rattle.sched_plain.specs.declared.row.GroupRow.{GroupRow}
 use Rattle.sched_plain.specs.Groups.{is_named}
 use Rattle.sched_calls.specs.Replies.{sorted, put_sorted, text_before}
+use Rattle.sched_rows.specs.declared.edge.Edge.{Edge}
+use Rattle.sched_rows.specs.declared.edge.Edge.TheVariants as edges
 use Rattle.sched_rows.specs.Order.{numbered, numbers_in, IsRising, IsPlace}
-use Rattle.sched_rows.specs.GroupIndex.{group_before, groups_in_order, group_short, lowered, IsGrouped}
+use Rattle.sched_rows.specs.GroupIndex.{group_before, groups_in_order, group_short, is_group_short, lowered, IsGrouped}
 use Rattle.sched_rows.proofs.OrderLemmas.{IsOrder, is_apart, before_first, filter_sorted, length_sorted, sorted_map, sorted_push, insert_put, rising_put, rising_map, rising_filter, all_sorted}
-use Rattle.sched_rows.proofs.NameLemmas.{text_asym, text_trans, text_total, text_itself, same_text_same, same_text_is}
+use Rattle.sched_rows.proofs.NameLemmas.{text_asym, text_trans, text_total, text_itself, text_between, or_left_of, same_text_same, same_text_is}
 use Rattle.sched_rows.proofs.PlaceLemmas.{Each, IsPlaced, placed, each_sorted, each_weaker, filter_numbers, front_passes, back_fails}
 use Rattle.sched_rows.proofs.LivingLemmas.{all_where, not_is, length_numbers_in}
 use Rattle.sched_rows.proofs.ChangeLemmas.{numbered_push, head_number, numbers_from, passing_numbers, with_first}
@@ -227,29 +229,36 @@ pub group_tested : (t : GroupRow → Bool) (groups : List GroupRow) → Each (λ
 group_tested t groups =
     each_weaker (IsPlaced groups) (λ p. some_pass t (nth groups p.0) ≡ t p.1) (λ p e. ap (some_pass t) e) (groups_in_order groups) (groups_placed groups)
 
--- the two parts of the index at a place
-pub record GroupsParted (name : List ℕ) (ps : List (ℕ × GroupRow)) (at : ℕ) : Type 0 where
-  pub front : list_all (λ p. text_before p.1.name name) (take at ps) ≡ true
-  pub back : list_all (λ p. not (text_before p.1.name name)) (drop at ps) ≡ true
+-- what comes before a group that is short of a bound is short of it too
+group_short_before : (name : List ℕ) (edge : Edge) (p q : ℕ × GroupRow) → group_before p q ≡ true → is_group_short name edge q.1 ≡ true → is_group_short name edge p.1 ≡ true
+group_short_before name edges.Before p q e f = text_trans p.1.name q.1.name name e f
+group_short_before name edges.Behind p q e f = elim (or_cases (text_before q.1.name name) (starts_with nat_eq q.1.name name) f) [
+  | inl less ↦ or_left_of (text_before p.1.name name) (starts_with nat_eq p.1.name name) (text_trans p.1.name q.1.name name e less)
+  | inr begins ↦ text_between name p.1.name q.1.name e begins
+]
 
-pub groups_parted : (groups : List GroupRow) (places : List ℕ) (name : List ℕ) (at : ℕ) → IsGrouped groups places → IsPlace (group_short groups name) places at
-    → GroupsParted name (groups_in_order groups) at
-groups_parted groups places name at index place =
-    let placed = subst (λ (ns : List ℕ). IsPlace (group_short groups name) ns at) index.names place in
+-- the two parts of the index at a place
+pub record GroupsParted (name : List ℕ) (edge : Edge) (ps : List (ℕ × GroupRow)) (at : ℕ) : Type 0 where
+  pub front : list_all (λ p. is_group_short name edge p.1) (take at ps) ≡ true
+  pub back : list_all (λ p. not (is_group_short name edge p.1)) (drop at ps) ≡ true
+
+pub groups_parted : (groups : List GroupRow) (places : List ℕ) (name : List ℕ) (edge : Edge) (at : ℕ) → IsGrouped groups places → IsPlace (group_short groups name edge) places at
+    → GroupsParted name edge (groups_in_order groups) at
+groups_parted groups places name edge at index place =
+    let placed = subst (λ (ns : List ℕ). IsPlace (group_short groups name edge) ns at) index.names place in
     let long = length_numbers_in (groups_in_order groups) in
-    let t : GroupRow → Bool = λ group. text_before group.name name in
-    let down : (p q : ℕ × GroupRow) → group_before p q ≡ true → t q.1 ≡ true → t p.1 ≡ true = λ p q e f. text_trans p.1.name q.1.name name e f in
+    let t : GroupRow → Bool = is_group_short name edge in
     record {
-      front = front_passes group_before (group_short groups name) (λ p. t p.1) down (groups_in_order groups) at index.apart (group_tested t groups) (omega (arith, placed.within)) placed.front;
-      back = back_fails group_before (group_short groups name) (λ p. t p.1) down (groups_in_order groups) at index.apart (group_tested t groups) (λ lt. placed.back (omega arith));
+      front = front_passes group_before (group_short groups name edge) (λ p. t p.1) (group_short_before name edge) (groups_in_order groups) at index.apart (group_tested t groups) (omega (arith, placed.within)) placed.front;
+      back = back_fails group_before (group_short groups name edge) (λ p. t p.1) (group_short_before name edge) (groups_in_order groups) at index.apart (group_tested t groups) (λ lt. placed.back (omega arith));
     }
 
 -- the index after a group is created
 pub grouped_more : (groups : List GroupRow) (places : List ℕ) (group : GroupRow) (at n : ℕ) → IsGrouped groups places → find (is_named group.name) groups ≡ None
-    → IsPlace (group_short groups group.name) places at → n ≡ length groups + 1 → n ≤ MOST_GROUPS → IsGrouped (groups ++ group ∷ []) (insert places at n)
+    → IsPlace (group_short groups group.name edges.Before) places at → n ≡ length groups + 1 → n ≤ MOST_GROUPS → IsGrouped (groups ++ group ∷ []) (insert places at n)
 grouped_more groups places group at n index free place e few =
     let z : ℕ × GroupRow = (n, group) in
-    let parts = groups_parted groups places group.name at index place in
+    let parts = groups_parted groups places group.name edges.Before at index place in
     let pushed : numbered 1 (groups ++ group ∷ []) ≡ numbered 1 groups ++ z ∷ [] = numbered_push 1 n groups group (omega arith) in
     let apart : list_all (is_apart group_before z) (numbered 1 groups) ≡ true =
     all_where (λ p. not (is_named group.name p.1)) (is_apart group_before z) (group_apart group n) (numbered 1 groups)

@@ -11,3 +11,4 @@ pub mod AloneLemmas
 pub mod PageLemmas
 pub mod GroupPageLemmas
 pub mod NextLemmas
+pub mod GroupSearch

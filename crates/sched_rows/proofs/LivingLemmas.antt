@@ -1,8 +1,8 @@
 -- The index of the living by name: what stands at the place of a name.
-use Rattle.std.proofs.Common.{◌≡◌, ℕ, zero, suc, ◌≤◌, ◌<◌, Bool, true, false, not, ◌&&◌, Option, Some, None, List, [], ◌∷◌, ◌++◌, length, take, drop, get_or, option_map, refl, sym, ap, ◌∙◌, subst, arith, cond, inl, inr}
-use Rattle.std.specs.Prelude.{if◌then◌else◌}
-use Rattle.std.specs.List.{filter, list_all}
-use Rattle.std.proofs.lemmas.Bool.{and_parts, and_from, both_ways, false_from_ne_true}
+use Rattle.std.proofs.Common.{◌≡◌, ℕ, zero, suc, ◌≤◌, ◌<◌, Bool, true, false, not, ◌&&◌, ◌||◌, Option, Some, None, List, [], ◌∷◌, ◌++◌, length, take, drop, get_or, option_map, refl, sym, ap, ◌∙◌, subst, arith, cond, inl, inr}
+use Rattle.std.specs.Prelude.{nat_eq, if◌then◌else◌}
+use Rattle.std.specs.List.{filter, list_all, starts_with}
+use Rattle.std.proofs.lemmas.Bool.{and_parts, and_from, or_cases, both_ways, false_from_ne_true}
 use Rattle.std.proofs.lemmas.List.{take-append-drop}
 use Rattle.std.proofs.lemmas.List.Elements.{filter-append, filter_agree}
 use Rattle.plain_words.specs.Lists.{nth, head, some_pass, same_text}
@@ -12,9 +12,11 @@ use Rattle.sched_plain.specs.declared.row.Row.{Row}
 use Rattle.sched_plain.specs.Rows.{is_at, living}
 use Rattle.sched_rows.specs.State.{Kept, rows_in}
 use Rattle.sched_rows.specs.Order.{numbered, numbers_in, IsRising, IsPlace}
-use Rattle.sched_rows.specs.Filing.{is_short_of, comes_short, living_rows, row_before, in_order, has_names, is_called, IsByName}
+use Rattle.sched_rows.specs.declared.edge.Edge.{Edge}
+use Rattle.sched_rows.specs.declared.edge.Edge.TheVariants as edges
+use Rattle.sched_rows.specs.Filing.{is_within, is_short_of, comes_short, living_rows, row_before, in_order, has_names, is_called, IsByName}
 use Rattle.sched_rows.proofs.OrderLemmas.{IsOrder, filter_sorted, length_sorted, if_false}
-use Rattle.sched_rows.proofs.NameLemmas.{name_asym, name_trans, name_total, name_itself, same_text_same, same_text_is, before_is, text_trans, Before}
+use Rattle.sched_rows.proofs.NameLemmas.{name_asym, name_trans, name_total, name_itself, same_text_same, same_text_is, before_is, before_from, text_between, or_left_of, or_right_of, Before}
 use Rattle.sched_rows.proofs.PlaceLemmas.{Each, IsPlaced, placed, each_filter, each_sorted, each_weaker, incs_numbered, front_passes, back_fails}
 
 pub row_order : IsOrder row_before
@@ -43,35 +45,46 @@ pub not_is : (b : Bool) → not b ≡ true → b ≡ false
 not_is true e = cc e
 not_is false e = refl
 
+-- what comes before a row whose name begins with a text comes before that text, or its name begins with it too
+before_within : (g n : List ℕ) (p q : Row) → Before p.group p.name q.group q.name → (same_text g q.group ≡ true) × (starts_with nat_eq q.name n ≡ true)
+    → (name_before p.group p.name g n || is_within g n p) ≡ true
+before_within g n p q (inl less) parts =
+    let lower : text_before p.group g ≡ true = subst (λ (x : List ℕ). text_before p.group x ≡ true) (sym (same_text_same g q.group parts.0)) less in
+    or_left_of (name_before p.group p.name g n) _ (before_from p.group p.name g n (inl lower))
+before_within g n p q (inr same) parts =
+    let there : g ≡ p.group = same_text_same g q.group parts.0 ∙ sym same.0 in
+    elim (or_cases (text_before p.name n) (starts_with nat_eq p.name n) (text_between n p.name q.name same.1 parts.1)) [
+      | inl less ↦ or_left_of (name_before p.group p.name g n) _ (before_from p.group p.name g n (inr (sym there, less)))
+      | inr begins ↦ or_right_of (name_before p.group p.name g n) _ (and_from (same_text g p.group) _ (same_text_is g p.group there) begins)
+    ]
+
 -- what comes before a row that is short of a bound is short of it too
-pub short_before : (group : List ℕ) (name : Option (List ℕ)) (p q : ℕ × Row) → row_before p q ≡ true → is_short_of group name q.1 ≡ true → is_short_of group name p.1 ≡ true
-short_before group (Some name) p q e f = name_trans p.1.group p.1.name q.1.group q.1.name group name e f
-short_before group None p q e f =
-    ap not (false_from_ne_true (text_before group p.1.group) (λ h. both_ways (text_before group q.1.group) (not_is _ f) (behind (before_is p.1.group p.1.name q.1.group q.1.name e) h)))
-  where
-    behind : Before p.1.group p.1.name q.1.group q.1.name → text_before group p.1.group ≡ true → text_before group q.1.group ≡ true
-    behind (inl less) h = text_trans group p.1.group q.1.group h less
-    behind (inr same) h = subst (λ (g : List ℕ). text_before group g ≡ true) same.0 h
+pub short_before : (group name : List ℕ) (edge : Edge) (p q : ℕ × Row) → row_before p q ≡ true → is_short_of group name edge q.1 ≡ true → is_short_of group name edge p.1 ≡ true
+short_before group name edges.Before p q e f = name_trans p.1.group p.1.name q.1.group q.1.name group name e f
+short_before group name edges.Behind p q e f = elim (or_cases (name_before q.1.group q.1.name group name) (is_within group name q.1) f) [
+  | inl less ↦ or_left_of (name_before p.1.group p.1.name group name) (is_within group name p.1) (name_trans p.1.group p.1.name q.1.group q.1.name group name e less)
+  | inr within ↦ before_within group name p.1 q.1 (before_is p.1.group p.1.name q.1.group q.1.name e) (and_parts (same_text group q.1.group) (starts_with nat_eq q.1.name name) within)
+]
 
 -- the two parts of the index at a place
-pub record Parted (group : List ℕ) (name : Option (List ℕ)) (placed : List (ℕ × Row)) (at : ℕ) : Type 0 where
-  pub front : list_all (λ p. is_short_of group name p.1) (take at placed) ≡ true
-  pub back : list_all (λ p. not (is_short_of group name p.1)) (drop at placed) ≡ true
+pub record Parted (group name : List ℕ) (edge : Edge) (placed : List (ℕ × Row)) (at : ℕ) : Type 0 where
+  pub front : list_all (λ p. is_short_of group name edge p.1) (take at placed) ≡ true
+  pub back : list_all (λ p. not (is_short_of group name edge p.1)) (drop at placed) ≡ true
 
 pub length_numbers_in : {A : Type 0} (ps : List (ℕ × A)) → length (numbers_in ps) ≡ length ps
 length_numbers_in [] = refl
 length_numbers_in (p ∷ ps) = ap suc (length_numbers_in ps)
 
-pub parted : (kept : List Kept) (numbers : List ℕ) (group : List ℕ) (name : Option (List ℕ)) (at : ℕ) → IsByName (rows_in kept) numbers
-    → IsPlace (comes_short kept group name) numbers at → Parted group name (in_order (rows_in kept)) at
-parted kept numbers group name at index place =
-    let placed = subst (λ (ns : List ℕ). IsPlace (comes_short kept group name) ns at) index.names place in
+pub parted : (kept : List Kept) (numbers : List ℕ) (group name : List ℕ) (edge : Edge) (at : ℕ) → IsByName (rows_in kept) numbers
+    → IsPlace (comes_short kept group name edge) numbers at → Parted group name edge (in_order (rows_in kept)) at
+parted kept numbers group name edge at index place =
+    let placed = subst (λ (ns : List ℕ). IsPlace (comes_short kept group name edge) ns at) index.names place in
     let long = length_numbers_in (in_order (rows_in kept)) in
     record {
-      front = front_passes row_before (comes_short kept group name) (λ p. is_short_of group name p.1) (short_before group name) (in_order (rows_in kept)) at
-          index.apart (tested (is_short_of group name) kept) (omega (arith, placed.within)) placed.front;
-      back = back_fails row_before (comes_short kept group name) (λ p. is_short_of group name p.1) (short_before group name) (in_order (rows_in kept)) at
-          index.apart (tested (is_short_of group name) kept) (λ lt. placed.back (omega arith));
+      front = front_passes row_before (comes_short kept group name edge) (λ p. is_short_of group name edge p.1) (short_before group name edge) (in_order (rows_in kept)) at
+          index.apart (tested (is_short_of group name edge) kept) (omega (arith, placed.within)) placed.front;
+      back = back_fails row_before (comes_short kept group name edge) (λ p. is_short_of group name edge p.1) (short_before group name edge) (in_order (rows_in kept)) at
+          index.apart (tested (is_short_of group name edge) kept) (λ lt. placed.back (omega arith));
     }
 
 -- ---- the living row of a name
@@ -142,7 +155,7 @@ rising_drop before zero xs r = r
 rising_drop before (suc at) [] r = tt
 rising_drop before (suc at) (x ∷ xs) r = rising_drop before at xs r.1
 
-named_at : (g n : List ℕ) (ps : List (ℕ × Row)) (at : ℕ) → IsRising row_before ps → Parted g (Some n) ps at
+named_at : (g n : List ℕ) (ps : List (ℕ × Row)) (at : ℕ) → IsRising row_before ps → Parted g n edges.Before ps at
     → filter (λ p. has_names g n p.1) ps ≡ first_if (λ p. has_names g n p.1) (drop at ps)
 named_at g n ps at rising parts =
     let t : ℕ × Row → Bool = λ p. has_names g n p.1 in
@@ -152,7 +165,7 @@ named_at g n ps at rising parts =
     ∙ first_named g n (drop at ps) (rising_drop row_before at ps rising) parts.back
 
 -- a list of at most one element is sorted
-sorted_alone : {A : Type 0} (before : A → A → Bool) (t : A → Bool) (xs ys : List A) → sorted before xs ≡ first_if t ys → xs ≡ first_if t ys
+pub sorted_alone : {A : Type 0} (before : A → A → Bool) (t : A → Bool) (xs ys : List A) → sorted before xs ≡ first_if t ys → xs ≡ first_if t ys
 sorted_alone {A} before t xs ys e = one xs (subst (λ (zs : List A). length zs ≤ 1) (sym e) (short ys)) ∙ e
   where
     short_if : (b : Bool) (y : A) → length (if b then y ∷ [] else []) ≤ 1
@@ -182,7 +195,7 @@ filter_both {A} p q (x ∷ xs) = step (p x) (filter_both p q xs)
     step false e = e
 
 -- what lives under a name stands, if anywhere, at its place in the index
-pub living_is : (rows : List Row) (g n : List ℕ) (at : ℕ) → IsRising row_before (in_order rows) → Parted g (Some n) (in_order rows) at
+pub living_is : (rows : List Row) (g n : List ℕ) (at : ℕ) → IsRising row_before (in_order rows) → Parted g n edges.Before (in_order rows) at
     → living rows g n ≡ head (numbers_in (first_if (λ p. has_names g n p.1) (drop at (in_order rows))))
 living_is rows g n at rising parts =
     let t : ℕ × Row → Bool = λ p. has_names g n p.1 in
@@ -210,26 +223,26 @@ at_found u t (p ∷ ps) zero e within b is =
     by_test false false e = refl
 at_found u t (p ∷ ps) (suc at) e within b is = at_found u t ps at e.1 (omega arith) b is
 
-pub living_found : (kept : List Kept) (numbers : List ℕ) (g n : List ℕ) (at : ℕ) → IsByName (rows_in kept) numbers → IsPlace (comes_short kept g (Some n)) numbers at
+pub living_found : (kept : List Kept) (numbers : List ℕ) (g n : List ℕ) (at : ℕ) → IsByName (rows_in kept) numbers → IsPlace (comes_short kept g n edges.Before) numbers at
     → at < length numbers → (b : Bool) → is_called kept g n (get_or numbers at 0) ≡ b → (if b then Some (get_or numbers at 0) else None) ≡ living (rows_in kept) g n
 living_found kept numbers g n at index place within b is =
     let e = index.names in
-    let parts = parted kept numbers g (Some n) at index place in
+    let parts = parted kept numbers g n edges.Before at index place in
     let found = at_found (is_called kept g n) (λ p. has_names g n p.1) (in_order (rows_in kept)) at (tested (has_names g n) kept)
     (subst (λ (ns : List ℕ). at < length ns) e within) b (subst (λ (ns : List ℕ). is_called kept g n (get_or ns at 0) ≡ b) e is) in
     subst (λ (ns : List ℕ). (if b then Some (get_or ns at 0) else None) ≡ living (rows_in kept) g n) (sym e)
     (sym (living_is (rows_in kept) g n at index.apart parts ∙ found))
 
-drop_past : {A : Type 0} (at : ℕ) (xs : List A) → length xs ≤ at → drop at xs ≡ []
+pub drop_past : {A : Type 0} (at : ℕ) (xs : List A) → length xs ≤ at → drop at xs ≡ []
 drop_past zero [] le = refl
 drop_past zero (x ∷ xs) le = absurd (omega arith)
 drop_past (suc at) [] le = refl
 drop_past (suc at) (x ∷ xs) le = drop_past at xs (omega arith)
 
-pub living_past : (kept : List Kept) (numbers : List ℕ) (g n : List ℕ) (at : ℕ) → IsByName (rows_in kept) numbers → IsPlace (comes_short kept g (Some n)) numbers at
+pub living_past : (kept : List Kept) (numbers : List ℕ) (g n : List ℕ) (at : ℕ) → IsByName (rows_in kept) numbers → IsPlace (comes_short kept g n edges.Before) numbers at
     → length numbers ≤ at → None ≡ living (rows_in kept) g n
 living_past kept numbers g n at index place past =
-    let parts = parted kept numbers g (Some n) at index place in
+    let parts = parted kept numbers g n edges.Before at index place in
     let long : length (in_order (rows_in kept)) ≤ at = omega (arith, length_numbers_in (in_order (rows_in kept)), ap length index.names) in
     sym (living_is (rows_in kept) g n at index.apart parts
     ∙ ap (λ (ps : List (ℕ × Row)). head (numbers_in (first_if (λ p. has_names g n p.1) ps))) (drop_past at (in_order (rows_in kept)) long))

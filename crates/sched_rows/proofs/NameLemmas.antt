@@ -1,13 +1,14 @@
 -- Texts and names of two parts are ordered by their bytes.
 use Rattle.std.proofs.Common.{◌≡◌, ℕ, Bool, true, false, ◌&&◌, ◌||◌, List, [], ◌∷◌, refl, sym, ap, ◌∙◌, subst, arith, inl, inr}
-use Rattle.std.specs.Prelude.{◌⊎◌, nat_eq, Some}
+use Rattle.std.specs.Prelude.{◌⊎◌, ◌==◌, nat_eq, nat_lt, ◌<◌, Some}
+use Rattle.std.specs.List.{starts_with}
 use Rattle.std.specs.declared.cmp.Ordering.{Ordering}
 use Rattle.std.specs.declared.cmp.Ordering.TheVariants.{Less, Equal, Greater}
 use Rattle.std.specs.Ordering.{nat_cmp, is_lt, is_some_and, ordering_reverse}
 use Rattle.std.specs.Cmp.Lexicographic.{slice_cmp, slice_partial_cmp}
 use Rattle.std.proofs.lemmas.Cmp.{nat_list_cmp_total, same_from_slice_cmp, same_from_slice_cmp_tested, tied_itself}
 use Rattle.std.proofs.lemmas.Map.Lookups.{exact_bytes}
-use Rattle.std.proofs.lemmas.Bool.{and_parts, and_from, or_cases, eqb-true, eq-eqb, false_from_ne_true, both_ways, or_parts}
+use Rattle.std.proofs.lemmas.Bool.{and_parts, and_from, or_cases, eqb-true, eq-eqb, ltb-true, false_from_ne_true, both_ways, or_parts}
 use Rattle.std.proofs.lemmas.Bool.Decides.{nat_tests}
 use Rattle.plain_words.specs.Lists.{same_text}
 use Rattle.sched_calls.specs.Replies.{text_before, name_before}
@@ -75,11 +76,11 @@ before_is g n g' n' e = elim (or_cases (text_before g g') (same_text g g' && tex
   | inr second ↦ let parts = and_parts (same_text g g') (text_before n n') second in inr (same_text_same g g' parts.0, parts.1)
 ]
 
-or_right_of : (x y : Bool) → y ≡ true → (x || y) ≡ true
+pub or_right_of : (x y : Bool) → y ≡ true → (x || y) ≡ true
 or_right_of true y e = refl
 or_right_of false y e = e
 
-or_left_of : (x y : Bool) → x ≡ true → (x || y) ≡ true
+pub or_left_of : (x y : Bool) → x ≡ true → (x || y) ≡ true
 or_left_of true y e = refl
 or_left_of false y e = cc
 
@@ -122,6 +123,50 @@ name_total g n g' n' e f =
 
 pub name_itself : (g n : List ℕ) → name_before g n g n ≡ false
 name_itself g n = false_from_ne_true _ (λ e. both_ways (name_before g n g n) (name_asym g n g n e) e)
+
+-- ---- texts that begin with a text
+
+-- a text before one that begins with a text comes before that text, or begins with it too
+pub text_between : (n a b : List ℕ) → text_before a b ≡ true → starts_with nat_eq b n ≡ true → (text_before a n || starts_with nat_eq a n) ≡ true
+text_between [] [] b e f = refl
+text_between [] (x ∷ xs) b e f = refl
+text_between (p ∷ ps) a [] e f = cc f
+text_between (p ∷ ps) [] (y ∷ ys) e f = refl
+text_between (p ∷ ps) (x ∷ xs) (y ∷ ys) e f =
+    let parts = and_parts (nat_eq p y) (starts_with nat_eq ys ps) f in
+    let same : p ≡ y = eqb-true p y parts.0 in
+    elim (or_cases (nat_lt x y) (x == y && text_before xs ys) e) [
+      | inl less ↦ let lower : nat_lt x p ≡ true = subst (λ (z : ℕ). nat_lt x z ≡ true) (sym same) less in first lower
+      | inr rest ↦
+          let both = and_parts (x == y) (text_before xs ys) rest in
+          let here : x ≡ p = eqb-true x y both.0 ∙ sym same in
+          elim (or_cases (text_before xs ps) (starts_with nat_eq xs ps) (text_between ps xs ys both.1 parts.1)) [
+            | inl less ↦ later here less
+            | inr begins ↦ with_it here begins
+          ]
+    ]
+  where
+    first : nat_lt x p ≡ true → (text_before (x ∷ xs) (p ∷ ps) || starts_with nat_eq (x ∷ xs) (p ∷ ps)) ≡ true
+    first lower = or_left_of (text_before (x ∷ xs) (p ∷ ps)) _ (or_left_of (nat_lt x p) _ lower)
+
+    later : x ≡ p → text_before xs ps ≡ true → (text_before (x ∷ xs) (p ∷ ps) || starts_with nat_eq (x ∷ xs) (p ∷ ps)) ≡ true
+    later here less = or_left_of (text_before (x ∷ xs) (p ∷ ps)) _ (or_right_of (nat_lt x p) _ (and_from (x == p) _ (eq-eqb x p here) less))
+
+    with_it : x ≡ p → starts_with nat_eq xs ps ≡ true → (text_before (x ∷ xs) (p ∷ ps) || starts_with nat_eq (x ∷ xs) (p ∷ ps)) ≡ true
+    with_it here begins = or_right_of (text_before (x ∷ xs) (p ∷ ps)) _ (and_from (nat_eq p x) _ (eq-eqb p x (sym here)) begins)
+
+-- what begins with a text does not come before it
+pub begins_not_before : (n a : List ℕ) → starts_with nat_eq a n ≡ true → text_before a n ≡ true → ⊥
+begins_not_before [] [] f e = cc e
+begins_not_before [] (x ∷ xs) f e = cc e
+begins_not_before (p ∷ ps) [] f e = cc f
+begins_not_before (p ∷ ps) (x ∷ xs) f e =
+    let parts = and_parts (nat_eq p x) (starts_with nat_eq xs ps) f in
+    let same : p ≡ x = eqb-true p x parts.0 in
+    elim (or_cases (nat_lt x p) (x == p && text_before xs ps) e) [
+      | inl less ↦ let lower : x < p = ltb-true x p less in omega (arith, lower, same)
+      | inr rest ↦ begins_not_before ps xs parts.1 (and_parts (x == p) (text_before xs ps) rest).1
+    ]
 
 -- what `<` answers of two texts
 pub text_tested : (a b : List ℕ) (r : Bool) → r ≡ is_some_and is_lt (slice_partial_cmp (λ (x y : ℕ). Some (nat_cmp x y)) a b) → r ≡ text_before a b

@@ -1,23 +1,29 @@
 -- The indexes of what lives: the numbers of the living in their order, and the same by group and name; and the
 -- places of the groups by name.
-use Rattle.std.specs.Prelude.{◌≡◌, ℕ, ◌≤◌, Bool, not, ◌&&◌, Option, Some, None, List, length}
-use Rattle.std.specs.List.{filter}
+use Rattle.std.specs.Prelude.{◌≡◌, ℕ, ◌≤◌, nat_eq, Bool, ◌&&◌, ◌||◌, Option, Some, None, List, length}
+use Rattle.std.specs.List.{filter, starts_with}
 use Rattle.sched_plain.specs.declared.row.Row.{Row}
-use Rattle.sched_calls.specs.Replies.{name_before, text_before, sorted}
+use Rattle.sched_calls.specs.Replies.{name_before, sorted}
 use Rattle.plain_words.specs.declared.limits.TheConstants.{MOST_INCARNATIONS}
 use Rattle.plain_words.specs.Lists.{nth, some_pass, same_text}
 use Rattle.sched_rows.specs.State.{Kept}
+use Rattle.sched_rows.specs.declared.edge.Edge.{Edge}
+use Rattle.sched_rows.specs.declared.edge.Edge.TheVariants as edges
 use Rattle.sched_rows.specs.Order.{numbered, numbers_in, IsRising, IsPlace}
 use Rattle.sched_rows.specs.Spans.{AllSpanned}
 
--- a row comes before a name in a group, or before the end of the group
-abbrev pub is_short_of : List ℕ → Option (List ℕ) → Row → Bool
-is_short_of group (Some name) row = name_before row.group row.name group name
-is_short_of group None row = not (text_before group row.group)
+-- a row is one of a group, with a name that begins with a prefix
+abbrev pub is_within : List ℕ → List ℕ → Row → Bool
+is_within group prefix row = same_text group row.group && starts_with nat_eq row.name prefix
+
+-- a row comes before a name in a group, or is not behind the names that begin with it
+abbrev pub is_short_of : List ℕ → List ℕ → Edge → Row → Bool
+is_short_of group name edges.Before row = name_before row.group row.name group name
+is_short_of group name edges.Behind row = name_before row.group row.name group name || is_within group name row
 
 -- so does the row of a number
-abbrev pub comes_short : List Kept → List ℕ → Option (List ℕ) → ℕ → Bool
-comes_short kept group name number = some_pass (λ k. is_short_of group name k.row) (nth kept number)
+abbrev pub comes_short : List Kept → List ℕ → List ℕ → Edge → ℕ → Bool
+comes_short kept group name edge number = some_pass (λ k. is_short_of group name edge k.row) (nth kept number)
 
 -- the living rows with their numbers
 abbrev pub living_rows : List Row → List (ℕ × Row)
@@ -54,4 +60,11 @@ pub record IsFiled (rows : List Row) (numbers names : List ℕ) (latest : ℕ) :
 -- a place from which on a list behind a name may go: the place of that name, or the first one where none is given
 abbrev pub IsStart : List Kept → List ℕ → Option (List ℕ × List ℕ) → ℕ → Type 0
 IsStart kept numbers None at = at ≡ 0
-IsStart kept numbers (Some last) at = IsPlace (comes_short kept last.0 (Some last.1)) numbers at
+IsStart kept numbers (Some last) at = IsPlace (comes_short kept last.0 last.1 edges.Before) numbers at
+
+-- the place at which the names of a group that begin with a prefix begin, or end; where no group is named, the first place,
+-- or the one behind the last
+abbrev pub IsEdge : List Kept → List ℕ → Option (List ℕ) → List ℕ → Edge → ℕ → Type 0
+IsEdge kept numbers None prefix edges.Before at = at ≡ 0
+IsEdge kept numbers None prefix edges.Behind at = at ≡ length numbers
+IsEdge kept numbers (Some group) prefix edge at = IsPlace (comes_short kept group prefix edge) numbers at

@@ -1,11 +1,12 @@
 //! Pages of the list of groups, by name.
-ghost use Rattle.std.specs.Prelude.{◌≡◌, ◌≤◌, ◌++◌, length, drop, IfOk, OnOk};
+ghost use Rattle.std.specs.Prelude.{◌≡◌, ◌≤◌, ◌++◌, length, IfOk, OnOk};
 ghost use Rattle.std.specs.Option.{option_map, option_to_list};
 ghost use Rattle.plain_words.specs.Lists.{when};
 ghost use Rattle.sched_calls.specs.Replies.{group_page_of, listed_groups, text_before, where_asked};
 ghost use Rattle.sched_rows.specs.GroupIndex.{IsGrouped, IsGroupStart};
 ghost use Rattle.sched_rows.specs.Pages.{group_shown_at, groups_shown_of, is_listed_group};
 
+use crate::edge::Edge;
 use crate::groups::{group_at, place_of};
 use crate::lists::begins_with;
 use crate::order::text_before;
@@ -69,21 +70,19 @@ fn put_shown(page: &mut GroupRows, group: Option<GroupRow>) -> Result<(), AllocE
     }
 }
 
-/// The page of the groups that a list asks for, from an index on.
+/// The page of the groups that a list asks for among those at some places.
 fn page_from(
     alloc: Global,
     groups: &[GroupRow],
     places: &[u32],
-    start: usize,
     prefix: &Text,
     after: Option<&Name>,
     max: u8,
 ) -> Result<GroupPage, AllocError>
-    requires { start ≤ length places.now }
-    ensures { IfOk result (λ page. page ≡ group_page_of max (groups_shown_of (is_listed_group prefix.now (option_map (λ n. n.now) after.entry)) groups.now (drop start places.now))) }
+    ensures { IfOk result (λ page. page ≡ group_page_of max (groups_shown_of (is_listed_group prefix.now (option_map (λ n. n.now) after.entry)) groups.now places.now)) }
 {
     let mut page = Items::new(alloc);
-    for i in start..places.len() {
+    for i in 0..places.len() {
         let group = shown_at(groups, places[i], prefix, after)?;
         if page.len() == max as usize && group.is_some() {
             return Ok(GroupPage {
@@ -99,14 +98,33 @@ fn page_from(
     })
 }
 
-/// The index from which on a list goes.
+/// The index from which on a list behind a name goes.
 fn start_of(groups: &[GroupRow], places: &[u32], after: Option<&Name>) -> usize
-    ensures { IsGroupStart groups.now places.now (option_map (λ n. n.now) after.entry) result }
+    ensures place { IsGroupStart groups.now places.now (option_map (λ n. n.now) after.entry) result }
+    ensures within { result ≤ length places.now }
 {
     match after {
-        Some(name) => place_of(groups, places, name.as_bytes()),
+        Some(name) => place_of(groups, places, name.as_bytes(), Edge::Before),
         None => 0,
     }
+}
+
+/// The part of the index in which the groups stand that a list asks for: behind a name, and within a prefix.
+fn span_of<'a>(
+    groups: &[GroupRow],
+    places: &'a [u32],
+    prefix: &Text,
+    after: Option<&Name>,
+) -> &'a [u32]
+    requires { IsGrouped groups.now places.now }
+    ensures { groups_shown_of (is_listed_group prefix.now (option_map (λ n. n.now) after.entry)) groups.now result.now ≡ listed_groups prefix.now (option_map (λ n. n.now) after.entry) groups.now }
+{
+    let behind = start_of(groups, places, after);
+    let from = place_of(groups, places, prefix.as_bytes(), Edge::Before);
+    let to = place_of(groups, places, prefix.as_bytes(), Edge::Behind);
+    let start = behind.max(from);
+    let end = to.max(start);
+    &places[start..end]
 }
 
 /// The first groups behind a name, at most so many, and whether more follow.
@@ -121,6 +139,6 @@ pub fn page_of(
     requires { IsGrouped groups.now places.now }
     ensures { IfOk result (λ page. page ≡ group_page_of max (listed_groups prefix.now (option_map (λ n. n.now) after.entry) groups.now)) }
 {
-    let start = start_of(groups, places, after);
-    page_from(alloc, groups, places, start, prefix, after, max)
+    let span = span_of(groups, places, prefix, after);
+    page_from(alloc, groups, span, prefix, after, max)
 }

@@ -6,9 +6,11 @@ ghost use Rattle.plain_words.specs.Lists.{nth};
 ghost use Rattle.plain_words.specs.Moments.{moment_of};
 ghost use Rattle.sched_plain.specs.Groups.{default_name, is_named, has_group};
 ghost use Rattle.sched_calls.specs.Replies.{group_page_of, listed_groups};
-ghost use Rattle.sched_rows.specs.GroupIndex.{group_short, lowered};
+ghost use Rattle.sched_rows.specs.GroupIndex.{group_short, is_group_short, lowered, IsGrouped};
 ghost use Rattle.sched_rows.specs.Order.{IsPlace};
+ghost use Rattle.sched_rows.specs.Pages.{group_shown_at};
 
+use crate::edge::Edge;
 use crate::group_lists::page_of;
 use crate::order::{same_text, text_before};
 use sched_calls::GroupPage;
@@ -50,25 +52,36 @@ pub fn group_at(groups: &[GroupRow], place: u32) -> Option<&GroupRow>
     Some(&groups[place as usize - 1])
 }
 
-/// Whether the group at a place comes before a name.
-fn comes_short(groups: &[GroupRow], place: u32, name: &[u8]) -> bool
-    ensures { result ≡ group_short groups.now name.now place }
+/// Whether a group comes before a name, or is not behind the names that begin with it.
+fn is_short_of(group: &GroupRow, name: &[u8], edge: Edge) -> bool
+    ensures { result ≡ is_group_short name.now edge group.now }
+{
+    let before = text_before(group.name.as_bytes(), name);
+    match edge {
+        Edge::Before => before,
+        Edge::Behind => before || group.name.as_bytes().starts_with(name),
+    }
+}
+
+/// The same of the group at a place.
+fn comes_short(groups: &[GroupRow], place: u32, name: &[u8], edge: Edge) -> bool
+    ensures { result ≡ group_short groups.now name.now edge place }
 {
     match group_at(groups, place) {
-        Some(group) => text_before(group.name.as_bytes(), name),
+        Some(group) => is_short_of(group, name, edge),
         None => false,
     }
 }
 
-/// The place in the index at which a name stands or would stand.
-pub fn place_of(groups: &[GroupRow], places: &[u32], name: &[u8]) -> usize
-    ensures { IsPlace (group_short groups.now name.now) places.now result }
+/// The place in the index at which a name stands or would stand, or at which the names that begin with it end.
+pub fn place_of(groups: &[GroupRow], places: &[u32], name: &[u8], edge: Edge) -> usize
+    ensures { IsPlace (group_short groups.now name.now edge) places.now result }
 {
     let mut low = 0;
     let mut high = places.len();
     while low < high {
         let middle = low + (high - low) / 2;
-        if comes_short(groups, places[middle], name) {
+        if comes_short(groups, places[middle], name, edge) {
             low = middle + 1;
         } else {
             high = middle;
@@ -91,16 +104,30 @@ fn is_named(name: &Name, group: &GroupRow) -> bool
     same_text(name.as_bytes(), group.name.as_bytes())
 }
 
+/// The group at a place, where it has a name.
+fn named_at<'a>(groups: &'a [GroupRow], place: u32, name: &Name) -> Option<&'a GroupRow>
+    ensures { option_copied result ≡ group_shown_at (is_named name.now) groups.now place }
+{
+    match group_at(groups, place) {
+        Some(group) => if is_named(name, group) {
+            Some(group)
+        } else {
+            None
+        },
+        None => None,
+    }
+}
+
 /// The group of a name.
-pub fn group_of<'a>(groups: &'a [GroupRow], name: &Name) -> Option<&'a GroupRow>
+fn group_of<'a>(groups: &'a [GroupRow], places: &[u32], name: &Name) -> Option<&'a GroupRow>
+    requires { IsGrouped groups.now places.now }
     ensures { option_copied result ≡ find (is_named name.now) groups.now }
 {
-    for group in groups {
-        if is_named(name, group) {
-            return Some(group);
-        }
+    let index = place_of(groups, places, name.as_bytes(), Edge::Before);
+    if index == places.len() {
+        return None;
     }
-    None
+    named_at(groups, places[index], name)
 }
 
 /// Takes a place out of a list.
@@ -173,7 +200,7 @@ impl Groups {
     pub fn get(&self, name: &Name) -> Option<&GroupRow>
         ensures { option_copied result ≡ find (is_named name.now) self.now.groups }
     {
-        group_of(&self.groups, name)
+        group_of(&self.groups, &self.by_name, name)
     }
 
     /// How many groups are there.
@@ -200,7 +227,7 @@ impl Groups {
         requires free { find (is_named name) self.old.groups ≡ None }
         ensures { self.new.groups ≡ self.old.groups ++ record { name = name; created = at } ∷ [] }
     {
-        let index = place_of(&self.groups, &self.by_name, name.as_bytes());
+        let index = place_of(&self.groups, &self.by_name, name.as_bytes(), Edge::Before);
         let place = self.groups.len() as u32 + 1;
         push_group(&mut self.groups, GroupRow { name, created: at });
         insert_place(&mut self.by_name, index, place);

@@ -8,6 +8,7 @@
 
 mod by_name;
 mod by_number;
+mod edge;
 mod faults;
 mod group_lists;
 mod groups;

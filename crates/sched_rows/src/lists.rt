@@ -1,16 +1,17 @@
 //! Pages of the list of schedules, by group, then by name.
-ghost use Rattle.std.specs.Prelude.{◌≡◌, ◌≤◌, nat_eq, List, ℕ, length, drop, ◌++◌, IfOk, OnOk};
+ghost use Rattle.std.specs.Prelude.{◌≡◌, ◌≤◌, nat_eq, Bool, Option, None, List, ℕ, length, ◌++◌, IfOk, OnOk};
 ghost use Rattle.std.specs.List.{filter, starts_with};
 ghost use Rattle.std.specs.Option.{option_map, option_to_list};
 ghost use Rattle.sched_calls.specs.Replies.{is_listed, list_row, list_rows, name_before, page_of, same_state, where_asked};
-ghost use Rattle.sched_rows.specs.Filing.{IsByName, IsStart};
+ghost use Rattle.sched_rows.specs.Filing.{IsByName, IsEdge, IsStart};
 ghost use Rattle.sched_rows.specs.Spans.{HasContents};
 ghost use Rattle.sched_rows.specs.Answers.{is_of};
 ghost use Rattle.sched_rows.specs.Pages.{shown, shown_at, shown_of};
-ghost use Rattle.sched_rows.specs.State.{rows_in};
+ghost use Rattle.sched_rows.specs.State.{Kept, rows_in};
 
 use crate::by_name::{place_of, row_at};
 use crate::by_number::is_of;
+use crate::edge::Edge;
 use crate::order::name_before;
 use crate::row::KeptRow;
 use sched_calls::{ListRow, ListRows, Page};
@@ -131,23 +132,21 @@ fn put_shown(page: &mut ListRows, row: Option<ListRow>) -> Result<(), AllocError
     }
 }
 
-/// The page of the rows that a list asks for, from a place in the index on.
+/// The page of the rows that a list asks for among those of some numbers.
 fn page_from(
     alloc: Global,
     rows: &[KeptRow],
     numbers: &[u32],
-    start: usize,
     group: Option<&Name>,
     prefix: &Text,
     enabled: Option<bool>,
     after: Option<(&Name, &Name)>,
     max: u8,
 ) -> Result<Page, AllocError>
-    requires { start ≤ length numbers.now }
-    ensures { IfOk result (λ page. page ≡ page_of max (shown_of (is_listed (option_map (λ g. g.now) group.entry) prefix.now enabled (option_map {U = List ℕ × List ℕ} (λ names. (names.0.now, names.1.now)) after.entry)) rows.now (drop start numbers.now))) }
+    ensures { IfOk result (λ page. page ≡ page_of max (shown_of (is_listed (option_map (λ g. g.now) group.entry) prefix.now enabled (option_map {U = List ℕ × List ℕ} (λ names. (names.0.now, names.1.now)) after.entry)) rows.now numbers.now)) }
 {
     let mut page = Items::new(alloc);
-    for i in start..numbers.len() {
+    for i in 0..numbers.len() {
         let row = shown_at(rows, numbers[i], group, prefix, enabled, after)?;
         if page.len() == max as usize && row.is_some() {
             return Ok(Page {
@@ -163,15 +162,69 @@ fn page_from(
     })
 }
 
-/// The place in the index from which on a list goes.
+/// The place in the index from which on a list behind a name goes.
 fn start_of(rows: &[KeptRow], numbers: &[u32], after: Option<(&Name, &Name)>) -> usize
-    requires { IsByName (rows_in rows.now) numbers.now }
-    ensures { IsStart rows.now numbers.now (option_map {U = List ℕ × List ℕ} (λ names. (names.0.now, names.1.now)) after.entry) result }
+    ensures place { IsStart rows.now numbers.now (option_map {U = List ℕ × List ℕ} (λ names. (names.0.now, names.1.now)) after.entry) result }
+    ensures within { result ≤ length numbers.now }
 {
     match after {
-        Some((group, name)) => { place_of(rows, numbers, group.as_bytes(), Some(name.as_bytes())) }
+        Some((group, name)) => place_of(
+            rows,
+            numbers,
+            group.as_bytes(),
+            name.as_bytes(),
+            Edge::Before,
+        ),
         None => 0,
     }
+}
+
+/// The place in the index at which the names that a list asks for begin, or end: those of a group, where one is named, that
+/// begin with the prefix.
+fn edge_of(
+    rows: &[KeptRow],
+    numbers: &[u32],
+    group: Option<&Name>,
+    prefix: &Text,
+    edge: Edge,
+) -> usize
+    ensures place { IsEdge rows.now numbers.now (option_map (λ g. g.now) group.entry) prefix.now edge result }
+    ensures within { result ≤ length numbers.now }
+{
+    match group {
+        Some(group) => place_of(rows, numbers, group.as_bytes(), prefix.as_bytes(), edge),
+        None => end_of(numbers, edge),
+    }
+}
+
+/// The first place of an index, or the one behind its last.
+fn end_of(numbers: &[u32], edge: Edge) -> usize
+    ensures place { (rows : List Kept) (prefix : List ℕ) → IsEdge rows numbers.now None prefix edge result }
+    ensures within { result ≤ length numbers.now }
+{
+    match edge {
+        Edge::Before => 0,
+        Edge::Behind => numbers.len(),
+    }
+}
+
+/// The part of the index in which the rows stand that a list asks for: behind a name, and within a group and a prefix.
+fn span_of<'a>(
+    rows: &[KeptRow],
+    numbers: &'a [u32],
+    group: Option<&Name>,
+    prefix: &Text,
+    after: Option<(&Name, &Name)>,
+) -> &'a [u32]
+    requires { IsByName (rows_in rows.now) numbers.now }
+    ensures { (enabled : Option Bool) → shown_of (is_listed (option_map (λ g. g.now) group.entry) prefix.now enabled (option_map {U = List ℕ × List ℕ} (λ names. (names.0.now, names.1.now)) after.entry)) rows.now result.now ≡ shown_of (is_listed (option_map (λ g. g.now) group.entry) prefix.now enabled (option_map {U = List ℕ × List ℕ} (λ names. (names.0.now, names.1.now)) after.entry)) rows.now numbers.now }
+{
+    let behind = start_of(rows, numbers, after);
+    let from = edge_of(rows, numbers, group, prefix, Edge::Before);
+    let to = edge_of(rows, numbers, group, prefix, Edge::Behind);
+    let start = behind.max(from);
+    let end = to.max(start);
+    &numbers[start..end]
 }
 
 /// The first rows of a list of schedules behind a name, at most so many, and whether more follow.
@@ -189,8 +242,6 @@ pub fn page_of(
     requires spans { HasContents (rows_in rows.now) }
     ensures { IfOk result (λ page. page ≡ page_of max (filter (is_listed (option_map (λ g. g.now) group.entry) prefix.now enabled (option_map {U = List ℕ × List ℕ} (λ names. (names.0.now, names.1.now)) after.entry)) (list_rows (rows_in rows.now)))) }
 {
-    let start = start_of(rows, numbers, after);
-    page_from(
-        alloc, rows, numbers, start, group, prefix, enabled, after, max,
-    )
+    let span = span_of(rows, numbers, group, prefix, after);
+    page_from(alloc, rows, span, group, prefix, enabled, after, max)
 }

@@ -1,11 +1,11 @@
 //! The order of names by their bytes.
 ghost use Rattle.std.specs.Prelude.{◌≡◌};
-ghost use Rattle.std.specs.Option.{option_map};
 ghost use Rattle.sched_calls.specs.Replies.{text_before, name_before};
 ghost use Rattle.plain_words.specs.Lists.{same_text};
 ghost use Rattle.sched_plain.specs.Rows.{is_in};
-ghost use Rattle.sched_rows.specs.Filing.{has_names, is_short_of};
+ghost use Rattle.sched_rows.specs.Filing.{has_names, is_short_of, is_within};
 
+use crate::edge::Edge;
 use crate::row::KeptRow;
 use sched_plain::Name;
 
@@ -31,13 +31,21 @@ pub fn name_before(group: &[u8], name: &[u8], other_group: &[u8], other_name: &[
         || same_text(group, other_group) && text_before(name, other_name)
 }
 
-/// Whether a row comes before a name in a group, or before the end of the group where no name is given.
-pub fn is_short_of(row: &KeptRow, group: &[u8], name: Option<&[u8]>) -> bool
-    ensures { result ≡ is_short_of group.now (option_map (λ n. n.now) name.entry) row.now.row }
+/// Whether a row is one of a group, with a name that begins with a prefix.
+fn is_within(row: &KeptRow, group: &[u8], prefix: &[u8]) -> bool
+    ensures { result ≡ is_within group.now prefix.now row.now.row }
 {
-    match name {
-        Some(name) => name_before(row.group().as_bytes(), row.name().as_bytes(), group, name),
-        None => !text_before(group, row.group().as_bytes()),
+    same_text(group, row.group().as_bytes()) && row.name().as_bytes().starts_with(prefix)
+}
+
+/// Whether a row comes before a name in a group, or is not behind the names that begin with it.
+pub fn is_short_of(row: &KeptRow, group: &[u8], name: &[u8], edge: Edge) -> bool
+    ensures { result ≡ is_short_of group.now name.now edge row.now.row }
+{
+    let before = name_before(row.group().as_bytes(), row.name().as_bytes(), group, name);
+    match edge {
+        Edge::Before => before,
+        Edge::Behind => before || is_within(row, group, name),
     }
 }
 

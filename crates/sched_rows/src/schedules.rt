@@ -13,6 +13,7 @@ ghost use Rattle.sched_rows.specs.Spans.{AllSpanned};
 
 use crate::by_name::{living_at, place_of, row_at};
 use crate::by_number::next_living;
+use crate::edge::Edge;
 use crate::lists::page_of;
 use crate::order::is_in;
 use crate::row::KeptRow;
@@ -266,7 +267,8 @@ impl Schedules {
             &self.rows,
             &self.by_name,
             group.as_bytes(),
-            Some(name.as_bytes()),
+            name.as_bytes(),
+            Edge::Before,
         );
         let revisions = mem::replace(&mut self.spare, Vec::new(alloc));
         push_row(

@@ -13,9 +13,9 @@ use Rattle.book_laws.proofs.EntriesExact.{entries_exact, entries_rise}
 use Rattle.book_laws.proofs.FirstSteps.{prefixes_are_legal}
 use Rattle.book_laws.proofs.SweptLeaves.{swept_leaves_nothing}
 use Rattle.book_laws.proofs.BeginsDiffer.{numbers_count, attempts_allowed}
-use Rattle.book_core.specs.InUse.{calendar}
-use Rattle.book_core.specs.Form.{IsSound}
-use Rattle.book_core.proofs.BirthLemmas.{sound_first, no_floor}
+use Rattle.plain_book.specs.InUse.{calendar}
+use Rattle.plain_book.specs.Form.{IsSound}
+use Rattle.plain_book.proofs.BirthLemmas.{sound_first, no_floor}
 use Rattle.target_link.specs.declared.link.Sent.{Sent}
 use Rattle.http_wire.specs.declared.request.HttpRequest.{HttpRequest}
 use Rattle.http_wire.specs.Devices.{Gives, Gets, GetsPart}

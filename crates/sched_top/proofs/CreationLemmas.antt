@@ -28,12 +28,12 @@ use Rattle.sched_calls.specs.Replies.{reply_to, row_refusal}
 use Rattle.sched_calls.specs.Serves.{Accepts, CatchUp, fault_of, kept_for, lacks_zone, with_zone, caught_up}
 use Rattle.plain_words.proofs.ListLemmas.{AllNone, all_none, nth_first, nth_rest, nth_past}
 use Rattle.plain_words.proofs.Options.{map_none}
-use Rattle.book_core.specs.InUse.{calendar}
-use Rattle.book_core.specs.Form.{IsSound, is_first_write, is_first_content}
-use Rattle.book_core.specs.Births.{births}
-use Rattle.book_core.specs.Made.{row_names}
-use Rattle.book_core.proofs.BirthLemmas.{sound_first, rows_births}
-use Rattle.book_core.proofs.ChangeLemmas.{all_live, touched_none, utc_first, no_token}
+use Rattle.plain_book.specs.InUse.{calendar}
+use Rattle.plain_book.specs.Form.{IsSound, is_first_write, is_first_content}
+use Rattle.plain_book.specs.Births.{births}
+use Rattle.plain_book.specs.Made.{row_names}
+use Rattle.plain_book.proofs.BirthLemmas.{sound_first, rows_births}
+use Rattle.plain_book.proofs.ChangeLemmas.{all_live, touched_none, utc_first, no_token}
 use Rattle.target_link.specs.declared.link.Sent.{Sent}
 use Rattle.plain_words.specs.declared.limits.TheConstants.{MOST_SCHEDULES}
 use Rattle.sched_top.specs.Serving.{schedules_there, no_zones, answer_text}

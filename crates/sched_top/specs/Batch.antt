@@ -18,7 +18,7 @@ use Rattle.sched_plain.specs.Marks.{mark}
 use Rattle.book_laws.specs.EntryLaws.{occ_upto}
 use Rattle.book_laws.specs.AttemptLaws.{numbers_of, allowed}
 use Rattle.book_laws.specs.SweepLaws.{NothingLeft}
-use Rattle.book_core.specs.InUse.{calendar}
+use Rattle.plain_book.specs.InUse.{calendar}
 use Rattle.target_link.specs.declared.link.Sent.{Sent}
 use Rattle.http_wire.specs.Devices.{Gives, Gets, GetsPart}
 use Rattle.http_wire.specs.Framing.{Message, message_bytes, IsFramed, request_of, IsNoMessage, TakesPart, TakesAtMostOne}

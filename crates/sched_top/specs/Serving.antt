@@ -12,7 +12,7 @@ use Rattle.sched_plain.specs.Rows.{rows_of}
 use Rattle.sched_plain.specs.Groups.{living_count}
 use Rattle.sched_calls.specs.Replies.{refusal}
 use Rattle.sched_calls.specs.Serves.{ZoneSource, End, Asked, Serves, IsCut}
-use Rattle.book_core.specs.InUse.{calendar}
+use Rattle.plain_book.specs.InUse.{calendar}
 use Rattle.json_api.specs.declared.form.Form.{Form}
 use Rattle.http_wire.specs.declared.request.HttpRequest.{HttpRequest}
 use Rattle.json_api.specs.Forms.{Asks}

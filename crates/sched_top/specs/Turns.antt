@@ -9,8 +9,8 @@ use Rattle.sched_plain.specs.History.{History, Extends, count}
 use Rattle.sched_plain.specs.Moments.{moment}
 use Rattle.plain_words.specs.Moments.{moment_of, last_moment}
 use Rattle.sched_calls.specs.Serves.{End, ServesWrite, Sweeps, all_shards, IsCut}
-use Rattle.book_core.specs.InUse.{calendar}
-use Rattle.book_core.specs.Form.{IsSound}
+use Rattle.plain_book.specs.InUse.{calendar}
+use Rattle.plain_book.specs.Form.{IsSound}
 use Rattle.target_link.specs.declared.link.Sent.{Sent}
 use Rattle.http_wire.specs.declared.request.HttpRequest.{HttpRequest}
 use Rattle.http_wire.specs.Devices.{Gets, GetsPart}

@@ -7,11 +7,11 @@ ghost use Rattle.sched_top.specs.Turns.{IsReady, Turn, IsGiven, IsPartGiven};
 ghost use Rattle.outside.specs.Faults.{Rose};
 
 use crate::service::respond;
-use book_core::Machine;
 use http_wire::{
     FrameFault, HttpRequest, Sink, SinkFailed, Source, memory_response, read_request, send_all,
     write_refusal,
 };
+use plain_book::Machine;
 use sched_plain::{Moment, Step};
 use std::alloc::{AllocError, Global};
 use target_link::Link;

@@ -4,7 +4,7 @@ ghost use Rattle.sched_plain.specs.History.{History, ◌upon◌, count};
 ghost use Rattle.sched_plain.specs.Validity.{IsValid, IsWrite};
 ghost use Rattle.plain_words.specs.Moments.{last_moment};
 ghost use Rattle.sched_calls.specs.Replies.{reply_to, refusal as refusal_of, named_by};
-ghost use Rattle.book_core.specs.Form.{IsFirstForm, IsSound, is_first_write};
+ghost use Rattle.plain_book.specs.Form.{IsFirstForm, IsSound, is_first_write};
 ghost use Rattle.target_link.specs.declared.link.Sent.{Sent};
 ghost use Rattle.http_wire.specs.Response.{refusal_text};
 ghost use Rattle.json_api.specs.Forms.{Asks, IsServedForm};
@@ -13,9 +13,9 @@ ghost use Rattle.sched_top.specs.Turns.{IsReady, Turn, WriteServed, SweepServed,
 ghost use Rattle.std.specs.Prelude.{Ok as Good, Err as Bad};
 
 use crate::answer::{conflict_text, created_text, settled_text};
-use book_core::{LegalFault, Machine};
 use http_wire::{HttpRequest, write_refusal};
 use json_api::{Form, read_form};
+use plain_book::{LegalFault, Machine};
 use sched_calls::Call;
 use sched_plain::{MOST_SCHEDULES, Moment, RowFault, Step, Why, Write};
 use std::alloc::{AllocError, Global};

@@ -5,8 +5,8 @@ ghost use Rattle.sched_top.specs.Batch.{IsBatch, is_end_status, is_exit_status, 
 ghost use Rattle.outside.specs.Faults.{Rose};
 
 use crate::batch::{BatchEnd, run_batch};
-use book_core::Book;
 use http_wire::{Sink, Source};
+use plain_book::Book;
 use std::alloc::Global;
 use target_link::Link;
 

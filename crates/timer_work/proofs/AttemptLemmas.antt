@@ -12,8 +12,8 @@ use Rattle.sched_plain.specs.Leases.{holder}
 use Rattle.sched_plain.specs.Seen.{seen}
 use Rattle.sched_plain.specs.Work.{work}
 use Rattle.sched_calls.specs.Serves.{begin_of, next_number, number_after}
-use Rattle.book_core.specs.InUse.{calendar}
-use Rattle.book_core.specs.Form.{MayAdd}
+use Rattle.plain_book.specs.InUse.{calendar}
+use Rattle.plain_book.specs.Form.{MayAdd}
 use Rattle.target_link.specs.declared.link.Sent.{Sent}
 use Rattle.timer_work.specs.Numbers.{number_behind}
 use Rattle.timer_work.specs.Sendings.{Request, AttemptSent, request_for}

@@ -11,13 +11,13 @@ use Rattle.plain_words.specs.Lists.{nth, numbers}
 use Rattle.sched_plain.specs.Ledger.{ledger_of}
 use Rattle.sched_plain.specs.Entries.{entries, filed, is_paired}
 use Rattle.sched_plain.specs.Work.{act_of, of_shard}
-use Rattle.book_core.specs.Form.{IsSound}
-use Rattle.book_core.specs.Births.{births}
-use Rattle.book_core.specs.Open.{if_open}
-use Rattle.book_core.specs.Questions.{first_unentered}
+use Rattle.plain_book.specs.Form.{IsSound}
+use Rattle.plain_book.specs.Births.{births}
+use Rattle.plain_book.specs.Open.{if_open}
+use Rattle.plain_book.specs.Questions.{first_unentered}
 use Rattle.plain_words.proofs.ListLemmas.{length_numbers}
 use Rattle.sched_plain.proofs.LedgerLemmas.{filed_paired}
-use Rattle.book_core.proofs.WorkLemmas.{few_births}
+use Rattle.plain_book.proofs.WorkLemmas.{few_births}
 use Rattle.timer_work.specs.Loads.{sum_over, weight_of, enter_weight, weight, load}
 use Rattle.timer_work.proofs.Loads.{light}
 use Rattle.timer_work.proofs.Single.{OneEntry, occurrence_at, one_entry, open_occurs}

@@ -15,16 +15,16 @@ use Rattle.sched_plain.specs.Ledger.{ledger_of, policy_of}
 use Rattle.sched_plain.specs.Entries.{entries, filed, filed_by, new_entry, is_paired}
 use Rattle.sched_calls.specs.Serves.{wanted}
 use Rattle.sched_plain.specs.Work.{act_of, of_shard}
-use Rattle.book_core.specs.declared.track.Origin.{Origin}
-use Rattle.book_core.specs.declared.work.Question.TheVariants as questions
-use Rattle.book_core.specs.InUse.{calendar}
-use Rattle.book_core.specs.Births.{births, origin_of}
-use Rattle.book_core.specs.Open.{open_of, if_open, occurrence_of}
-use Rattle.book_core.specs.Questions.{inc_answer, shard_answer, first_unentered, enter_answer}
-use Rattle.book_core.proofs.BirthLemmas.{AllFirst}
+use Rattle.plain_book.specs.declared.track.Origin.{Origin}
+use Rattle.plain_book.specs.declared.work.Question.TheVariants as questions
+use Rattle.plain_book.specs.InUse.{calendar}
+use Rattle.plain_book.specs.Births.{births, origin_of}
+use Rattle.plain_book.specs.Open.{open_of, if_open, occurrence_of}
+use Rattle.plain_book.specs.Questions.{inc_answer, shard_answer, first_unentered, enter_answer}
+use Rattle.plain_book.proofs.BirthLemmas.{AllFirst}
 use Rattle.plain_words.proofs.Booleans.{or_second}
 use Rattle.sched_plain.proofs.LedgerLemmas.{filed_paired}
-use Rattle.book_core.proofs.BookLemmas.{wanted_open}
+use Rattle.plain_book.proofs.BookLemmas.{wanted_open}
 use Rattle.timer_work.specs.Sweeping.{at_once, enter_of}
 use Rattle.timer_work.specs.Loads.{sum_over, weight_of, enter_weight, weight_by, weight, load}
 use Rattle.timer_work.proofs.Loads.{sum_less, sum_appended, light}

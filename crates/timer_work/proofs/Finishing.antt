@@ -24,14 +24,14 @@ use Rattle.sched_plain.specs.Standing.{standing_of, or_due}
 use Rattle.sched_plain.specs.Seen.{seen}
 use Rattle.sched_plain.specs.Work.{work, or_settled, act_of, wanted_by, of_shard}
 use Rattle.sched_calls.specs.Serves.{End, Works, Sweeps, settled, enters, closes, begins, swept, next_shard, taking_of, release_of, begin_of, end_of, wanted, words_left, words_of, windows_of, next_number}
-use Rattle.book_core.specs.declared.work.Question.TheVariants as questions
-use Rattle.book_core.specs.InUse.{calendar}
-use Rattle.book_core.specs.Births.{births}
-use Rattle.book_core.specs.Questions.{pair_answer, inc_answer, shard_answer, enter_answer, first_unentered}
+use Rattle.plain_book.specs.declared.work.Question.TheVariants as questions
+use Rattle.plain_book.specs.InUse.{calendar}
+use Rattle.plain_book.specs.Births.{births}
+use Rattle.plain_book.specs.Questions.{pair_answer, inc_answer, shard_answer, enter_answer, first_unentered}
 use Rattle.plain_words.proofs.Options.{first_case}
 use Rattle.sched_plain.proofs.HistoryLemmas.{extends_through}
-use Rattle.book_core.proofs.BirthLemmas.{AllFirst, sound_first}
-use Rattle.book_core.proofs.WorkLemmas.{work_asked}
+use Rattle.plain_book.proofs.BirthLemmas.{AllFirst, sound_first}
+use Rattle.plain_book.proofs.WorkLemmas.{work_asked}
 use Rattle.timer_work.specs.Sweeping.{NoneLive, Place, Before, AtWork, InAttempt, Unreleased, Rest, Fit, zeros, at_once, enter_of}
 use Rattle.timer_work.proofs.LeadLemmas.{drawn_zeros, left_zeros}
 use Rattle.timer_work.proofs.FitLemmas.{none_taken, none_entered, none_closed, none_ended}

@@ -15,8 +15,8 @@ use Rattle.sched_plain.specs.Work.{work}
 use Rattle.sched_calls.specs.Serves.{wanted, next_number}
 use Rattle.plain_words.specs.Moments.{last_moment}
 use Rattle.plain_words.specs.declared.limits.TheConstants.{LEASE_SECONDS}
-use Rattle.book_core.specs.InUse.{calendar}
-use Rattle.book_core.proofs.BirthLemmas.{sound_first}
+use Rattle.plain_book.specs.InUse.{calendar}
+use Rattle.plain_book.proofs.BirthLemmas.{sound_first}
 use Rattle.timer_work.specs.Sweeping.{Before, AtWork, Unreleased, Fit, at_once}
 use Rattle.timer_work.specs.Offers.{IsWithin, IsEnterable, IsDone}
 use Rattle.timer_work.proofs.Lawful.{may_take, may_enter, may_close, may_begin, may_end, may_release}

@@ -35,13 +35,13 @@ use Rattle.sched_plain.specs.Work.{work, or_settled, act_of, wanted_by, of_shard
 use Rattle.sched_plain.specs.Rules.{begin_table, close_table, first_astray, first_outside, is_in_window, window_of, unless_settled, unless_exhausted}
 use Rattle.sched_plain.specs.Legal.{MayFollow}
 use Rattle.sched_calls.specs.Serves.{taking_of, release_of, begin_of, wanted, next_number, number_after}
-use Rattle.book_core.specs.declared.work.Question.TheVariants as questions
-use Rattle.book_core.specs.InUse.{calendar}
-use Rattle.book_core.specs.Births.{births}
-use Rattle.book_core.specs.Questions.{pair_answer, inc_answer, shard_answer}
+use Rattle.plain_book.specs.declared.work.Question.TheVariants as questions
+use Rattle.plain_book.specs.InUse.{calendar}
+use Rattle.plain_book.specs.Births.{births}
+use Rattle.plain_book.specs.Questions.{pair_answer, inc_answer, shard_answer}
 use Rattle.plain_words.proofs.Booleans.{and_false, both_itself}
-use Rattle.book_core.proofs.BirthLemmas.{AllFirst}
-use Rattle.book_core.proofs.WorkLemmas.{work_asked}
+use Rattle.plain_book.proofs.BirthLemmas.{AllFirst}
+use Rattle.plain_book.proofs.WorkLemmas.{work_asked}
 use Rattle.timer_work.specs.Sweeping.{OnlyWorkerZero, NoneLive, at_once, enter_of}
 use Rattle.timer_work.proofs.Loads.{if_there}
 use Rattle.timer_work.proofs.LiveLemmas.{none_waits}

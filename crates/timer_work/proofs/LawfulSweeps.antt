@@ -12,10 +12,10 @@ use Rattle.sched_plain.specs.Legal.{MayFollow}
 use Rattle.sched_plain.specs.Leases.{holder}
 use Rattle.sched_calls.specs.Serves.{End, Works, settled}
 use Rattle.sched_calls.specs.Serves.{enters as enters_next, closes as closes_next, begins as begins_next, completes as completes_next}
-use Rattle.book_core.specs.declared.work.Question.TheVariants as questions
-use Rattle.book_core.specs.InUse.{calendar}
-use Rattle.book_core.specs.Questions.{shard_answer}
-use Rattle.book_core.proofs.BirthLemmas.{sound_first}
+use Rattle.plain_book.specs.declared.work.Question.TheVariants as questions
+use Rattle.plain_book.specs.InUse.{calendar}
+use Rattle.plain_book.specs.Questions.{shard_answer}
+use Rattle.plain_book.proofs.BirthLemmas.{sound_first}
 use Rattle.timer_work.specs.Sweeping.{Place, Fit}
 use Rattle.timer_work.specs.Offers.{Offers, takes, enters, closes, begins, marks, gives_back, IsDone, IsWithin, SweepsAreLawful}
 use Rattle.timer_work.proofs.FitLemmas.{epoch_taken}

@@ -12,7 +12,7 @@ use Rattle.sched_plain.specs.Seen.{seen}
 use Rattle.sched_plain.specs.Work.{work}
 use Rattle.sched_calls.specs.Serves.{End, Works, settled, enters, closes, begins, next_shard, taking_of, release_of, begin_of, wanted, words_left, words_after, words_behind, next_word, drawn, chosen_in, next_number, words_of, windows_of, words_in, ends_in}
 use Rattle.sched_plain.proofs.HistoryLemmas.{extends_through}
-use Rattle.book_core.specs.InUse.{calendar}
+use Rattle.plain_book.specs.InUse.{calendar}
 use Rattle.std.proofs.Math.Nat.{zero-mod}
 use Rattle.timer_work.specs.Sweeping.{zeros, at_once, enter_of, Place, Before, AtWork, InAttempt, Unreleased, Rest, RestOfShard, Leads}
 

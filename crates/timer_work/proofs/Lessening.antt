@@ -28,9 +28,9 @@ use Rattle.sched_plain.specs.Seen.{seen}
 use Rattle.sched_plain.specs.Standing.{delay, or_due, is_used_up, is_past_age}
 use Rattle.sched_plain.specs.Work.{work, act_of, wanted_by}
 use Rattle.sched_calls.specs.Serves.{wanted, next_number}
-use Rattle.book_core.specs.InUse.{calendar}
-use Rattle.book_core.specs.Form.{MayAdd}
-use Rattle.book_core.proofs.BirthLemmas.{sound_first}
+use Rattle.plain_book.specs.InUse.{calendar}
+use Rattle.plain_book.specs.Form.{MayAdd}
+use Rattle.plain_book.proofs.BirthLemmas.{sound_first}
 use Rattle.target_link.specs.declared.link.Sent.{Sent}
 use Rattle.timer_work.specs.Sendings.{AttemptSent, request_for}
 use Rattle.timer_work.specs.Sweeping.{AtWork, Fit, Went, at_once, enter_of}

@@ -17,9 +17,9 @@ use Rattle.sched_plain.specs.Attempts.{is_live_last}
 use Rattle.sched_plain.specs.Standing.{or_due, is_used_up, is_past_age, earliest}
 use Rattle.std.specs.Prelude.{nat_lt}
 use Rattle.sched_plain.specs.Work.{live_of, waited_for}
-use Rattle.book_core.specs.declared.work.Question.TheVariants as questions
-use Rattle.book_core.specs.Births.{births}
-use Rattle.book_core.specs.Questions.{pair_answer, inc_answer, shard_answer}
+use Rattle.plain_book.specs.declared.work.Question.TheVariants as questions
+use Rattle.plain_book.specs.Births.{births}
+use Rattle.plain_book.specs.Questions.{pair_answer, inc_answer, shard_answer}
 use Rattle.timer_work.specs.Sweeping.{NoneLive}
 
 -- nothing answers where no element does

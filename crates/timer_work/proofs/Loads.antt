@@ -15,11 +15,11 @@ use Rattle.sched_plain.specs.Ledger.{ledger_of}
 use Rattle.sched_plain.specs.Entries.{entries, filed}
 use Rattle.sched_plain.specs.Standing.{standing_of}
 use Rattle.sched_plain.specs.Work.{act_of, wanted_by, of_shard}
-use Rattle.book_core.specs.declared.track.Origin.{Origin}
-use Rattle.book_core.specs.declared.work.Question.TheVariants as questions
-use Rattle.book_core.specs.Births.{births, origin_of}
-use Rattle.book_core.specs.Open.{if_open, occurrence_of}
-use Rattle.book_core.specs.Questions.{inc_answer, shard_answer}
+use Rattle.plain_book.specs.declared.track.Origin.{Origin}
+use Rattle.plain_book.specs.declared.work.Question.TheVariants as questions
+use Rattle.plain_book.specs.Births.{births, origin_of}
+use Rattle.plain_book.specs.Open.{if_open, occurrence_of}
+use Rattle.plain_book.specs.Questions.{inc_answer, shard_answer}
 use Rattle.timer_work.specs.Loads.{sum_over, act_weight, weight_of, enter_weight, weight_by, weight, load}
 
 pub sum_fewer : {A : Type 0} (f g : A → ℕ) (xs : List A) → ((x : A) → g x ≤ f x) → sum_over g xs ≤ sum_over f xs

@@ -30,21 +30,21 @@ use Rattle.sched_plain.specs.Seen.{seen}
 use Rattle.sched_plain.specs.Work.{act_of, wanted_by}
 use Rattle.sched_plain.specs.Rules.{kind_table, moment_rule, first_astray}
 use Rattle.sched_calls.specs.Serves.{wanted, next_number, number_after}
-use Rattle.book_core.specs.declared.track.Origin.{Origin}
-use Rattle.book_core.specs.declared.work.Question.TheVariants as questions
-use Rattle.book_core.specs.InUse.{calendar}
-use Rattle.book_core.specs.Form.{IsSound}
-use Rattle.book_core.specs.Births.{Birth, births, origin_of}
-use Rattle.book_core.specs.Open.{if_open, if_covered, instant_of, occurrence_of}
-use Rattle.book_core.specs.Questions.{inc_answer, shard_answer, first_unentered, enter_answer}
+use Rattle.plain_book.specs.declared.track.Origin.{Origin}
+use Rattle.plain_book.specs.declared.work.Question.TheVariants as questions
+use Rattle.plain_book.specs.InUse.{calendar}
+use Rattle.plain_book.specs.Form.{IsSound}
+use Rattle.plain_book.specs.Births.{Birth, births, origin_of}
+use Rattle.plain_book.specs.Open.{if_open, if_covered, instant_of, occurrence_of}
+use Rattle.plain_book.specs.Questions.{inc_answer, shard_answer, first_unentered, enter_answer}
 use Rattle.plain_words.proofs.ListLemmas.{all_none, nth_past, nth_snoc}
 use Rattle.plain_words.proofs.Options.{first_case, map_none}
 use Rattle.sched_plain.proofs.LedgerLemmas.{entries_lost, filed_paired}
-use Rattle.book_core.proofs.BirthLemmas.{sound_first, ended_none}
-use Rattle.book_core.proofs.OpenLemmas.{unentered_open}
-use Rattle.book_core.proofs.SmallLemmas.{sound_small}
-use Rattle.book_core.specs.Small.{IsSmallFiled}
-use Rattle.book_core.proofs.BookLemmas.{wanted_open}
+use Rattle.plain_book.proofs.BirthLemmas.{sound_first, ended_none}
+use Rattle.plain_book.proofs.OpenLemmas.{unentered_open}
+use Rattle.plain_book.proofs.SmallLemmas.{sound_small}
+use Rattle.plain_book.specs.Small.{IsSmallFiled}
+use Rattle.plain_book.proofs.BookLemmas.{wanted_open}
 use Rattle.timer_work.specs.Offers.{IsWithin, IsEnterable}
 use Rattle.timer_work.proofs.Loads.{if_there}
 

@@ -15,8 +15,8 @@ use Rattle.sched_plain.specs.Leases.{holder}
 use Rattle.sched_plain.specs.Seen.{seen}
 use Rattle.sched_plain.specs.Work.{work}
 use Rattle.sched_calls.specs.Serves.{taking_of, release_of}
-use Rattle.book_core.specs.InUse.{calendar}
-use Rattle.book_core.specs.Form.{MayAdd}
+use Rattle.plain_book.specs.InUse.{calendar}
+use Rattle.plain_book.specs.Form.{MayAdd}
 use Rattle.target_link.specs.declared.link.Sent.{Sent}
 use Rattle.timer_work.specs.Offers.{IsEnterable}
 use Rattle.timer_work.specs.Sweeping.{Before, AtWork, Unreleased, Fit, Went, at_once, enter_of}

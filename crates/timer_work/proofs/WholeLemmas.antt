@@ -8,8 +8,8 @@ use Rattle.plain_words.specs.Moments.{moment_of}
 use Rattle.plain_words.specs.Lists.{numbers}
 use Rattle.sched_calls.specs.Serves.{End, Sweeps, swept, next_shard, all_shards}
 use Rattle.plain_words.specs.declared.limits.TheConstants.{SHARDS}
-use Rattle.book_core.specs.InUse.{calendar}
-use Rattle.book_core.specs.Form.{IsSound}
+use Rattle.plain_book.specs.InUse.{calendar}
+use Rattle.plain_book.specs.Form.{IsSound}
 use Rattle.target_link.specs.declared.link.Sent.{Sent}
 use Rattle.timer_work.specs.Sweeping.{OnlyWorkerZero, zeros, Before, Rest, Fit, Went, Stopped, Swept, SweepCut}
 use Rattle.timer_work.proofs.Finishing.{Finish, finishes}

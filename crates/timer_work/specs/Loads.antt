@@ -10,9 +10,9 @@ use Rattle.plain_words.specs.Lists.{nth}
 use Rattle.sched_plain.specs.Ledger.{ledger_of}
 use Rattle.sched_plain.specs.Entries.{entries, filed}
 use Rattle.sched_plain.specs.Work.{act_of, of_shard}
-use Rattle.book_core.specs.declared.track.Origin.{Origin}
-use Rattle.book_core.specs.Births.{births, origin_of}
-use Rattle.book_core.specs.Open.{open_of}
+use Rattle.plain_book.specs.declared.track.Origin.{Origin}
+use Rattle.plain_book.specs.Births.{births, origin_of}
+use Rattle.plain_book.specs.Open.{open_of}
 use Rattle.target_link.specs.declared.link.Sent.{Sent}
 use Rattle.timer_work.specs.Sweeping.{AtWork, Went}
 

@@ -14,7 +14,7 @@ use Rattle.sched_plain.specs.Seen.{seen}
 use Rattle.sched_plain.specs.Work.{work}
 use Rattle.sched_plain.specs.Legal.{MayFollow}
 use Rattle.sched_calls.specs.Serves.{End, Works, wanted, taking_of, release_of, begin_of, next_number}
-use Rattle.book_core.specs.InUse.{calendar}
+use Rattle.plain_book.specs.InUse.{calendar}
 use Rattle.timer_work.specs.Sweeping.{Place, Before, AtWork, Unreleased, Fit, enter_of}
 
 -- at a place over a history a sweep offers this step next

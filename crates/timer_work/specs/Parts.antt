@@ -7,7 +7,7 @@ use Rattle.sched_plain.specs.History.{History}
 use Rattle.sched_plain.specs.Seen.{seen}
 use Rattle.sched_plain.specs.Work.{work}
 use Rattle.sched_calls.specs.Serves.{next_number}
-use Rattle.book_core.specs.InUse.{calendar}
+use Rattle.plain_book.specs.InUse.{calendar}
 use Rattle.target_link.specs.declared.link.Sent.{Sent}
 use Rattle.timer_work.specs.Sweeping.{Place, AtWork, Unreleased, Fit, Went, Stopped}
 use Rattle.timer_work.specs.Loads.{Lessened}

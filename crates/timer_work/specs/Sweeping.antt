@@ -15,8 +15,8 @@ use Rattle.sched_plain.specs.Ledger.{ledger_of}
 use Rattle.sched_plain.specs.Entries.{filed}
 use Rattle.sched_plain.specs.Attempts.{is_live_last}
 use Rattle.sched_calls.specs.Serves.{wanted, End, Works, Sweeps, release_of, all_shards, words_in, ends_in, IsCut}
-use Rattle.book_core.specs.InUse.{calendar}
-use Rattle.book_core.specs.Form.{IsSound}
+use Rattle.plain_book.specs.InUse.{calendar}
+use Rattle.plain_book.specs.Form.{IsSound}
 use Rattle.target_link.specs.declared.link.Sent.{Sent}
 use Rattle.timer_work.specs.Sendings.{Reported}
 

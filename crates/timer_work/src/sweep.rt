@@ -6,7 +6,7 @@ ghost use Rattle.std.specs.Prelude.{◌≡◌, ◌≤◌, [], Err, OnOk, OnErr};
 ghost use Rattle.sched_plain.specs.History.{History};
 ghost use Rattle.sched_plain.specs.Moments.{moment};
 ghost use Rattle.sched_calls.specs.Serves.{all_shards};
-ghost use Rattle.book_core.specs.Form.{IsSound};
+ghost use Rattle.plain_book.specs.Form.{IsSound};
 ghost use Rattle.timer_work.specs.Sweeping.{OnlyWorkerZero, Before, Swept, SweepCut};
 ghost use Rattle.timer_work.specs.Parts.{Goes, Stops, Never};
 
@@ -19,8 +19,8 @@ mod steps;
 
 use crate::sweep::shard::sweep_shard;
 use crate::sweep::steps::Stop;
-use book_core::Machine;
 pub use law::sweeps_are_lawful;
+use plain_book::Machine;
 use sched_plain::{LAST_MOMENT, Moment, SHARDS};
 use std::alloc::{AllocError, Global};
 use target_link::Link;

@@ -1,4 +1,4 @@
-use book_core::{Book, Machine};
+use plain_book::{Book, Machine};
 use plain_words::{LAST_MOMENT, Moment, SHARDS};
 use sched_plain::{Holder, Work};
 use std::test::Fail;

@@ -8,7 +8,7 @@ ghost use Rattle.timer_work.specs.Parts.{IsNext, IsNextAttempt, Does, StopsAtWor
 
 use crate::sweep::request::{prepare, send};
 use crate::sweep::steps::{Stop, finish, take};
-use book_core::Machine;
+use plain_book::Machine;
 use sched_plain::{Entry, LAST_MOMENT, Moment, Step, shard_of};
 use std::alloc::Global;
 use target_link::Link;

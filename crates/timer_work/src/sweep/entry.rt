@@ -8,7 +8,7 @@ ghost use Rattle.timer_work.specs.Parts.{Keeps, IsNext, Does, NeverWanted};
 ghost use Rattle.timer_work.specs.Sweeping.{at_once};
 
 use crate::sweep::steps::{Stop, take};
-use book_core::Machine;
+use plain_book::Machine;
 use sched_plain::{LAST_MOMENT, MOST_PAIRS, Moment, Pair, Pairs, Reason, Step};
 use std::alloc::{AllocError, Global};
 

@@ -8,7 +8,7 @@ ghost use Rattle.target_link.specs.Told.{with_sent};
 ghost use Rattle.timer_work.specs.Ready.{request_in, request_within};
 ghost use Rattle.timer_work.specs.Sendings.{HeardSays, AttemptSent, facts_by, facts_of, request_by, request_for};
 
-use book_core::Machine;
+use plain_book::Machine;
 use plain_words::copy_option;
 use sched_calls::arn_of;
 use sched_plain::{LAST_MOMENT, Name, Schedule, Verdict};

@@ -9,7 +9,7 @@ ghost use Rattle.timer_work.specs.Sweeping.{Before, AtWork, Unreleased};
 use crate::sweep::attempt::attempt;
 use crate::sweep::entry::{close, enter};
 use crate::sweep::steps::{Stop, take};
-use book_core::Machine;
+use plain_book::Machine;
 use sched_plain::{LAST_MOMENT, LEASE_SECONDS, Moment, SHARDS, Step, Work};
 use std::alloc::Global;
 use target_link::Link;

@@ -3,12 +3,12 @@ ghost use Rattle.std.specs.Prelude.{◌≡◌, ◌≢◌, ◌≤◌, OnOk, OnErr
 ghost use Rattle.sched_plain.specs.History.{History, ◌upon◌};
 ghost use Rattle.sched_plain.specs.Legal.{MayFollow};
 ghost use Rattle.sched_plain.specs.Validity.{IsValid};
-ghost use Rattle.book_core.specs.InUse.{calendar};
-ghost use Rattle.book_core.specs.Form.{IsFirstForm};
-ghost use Rattle.book_core.specs.Answers.{IsEnd};
+ghost use Rattle.plain_book.specs.InUse.{calendar};
+ghost use Rattle.plain_book.specs.Form.{IsFirstForm};
+ghost use Rattle.plain_book.specs.Answers.{IsEnd};
 ghost use Rattle.timer_work.specs.Parts.{Keeps};
 
-use book_core::{LegalFault, Machine};
+use plain_book::{LegalFault, Machine};
 use sched_plain::Step;
 
 /// Why a sweep stops before its end.

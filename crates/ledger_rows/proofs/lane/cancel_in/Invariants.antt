@@ -1,18 +1,11 @@
-use Rattle.std.proofs.Common.{◌≡◌, ℕ, List}
-use Rattle.std.specs.Prelude.{vec_len, vec_capacity}
-use Rattle.ledger_rows.specs.declared.row.Row.{Row}
+use Rattle.std.proofs.Common.{◌≤◌, ◌-◌, length}
 use Rattle.ledger_rows.specs.Rows.{cancelled_row}
-use Rattle.ledger_rows.proofs.NumberLemmas.{Mapped}
+use Rattle.ledger_rows.proofs.Wholes.{Evened}
 use Rattle.ledger_rows.proofs.lane.cancel_in.Given as goal
 
--- the entries so far are changed, with their numbers, and the room stays
-pub record Changing (initial rows : List Row) (numbers : List ℕ) (at room first len old capacity before : ℕ) (f : Row → Row) : Type 0 where
-  pub mapped : Mapped f initial rows numbers at
-  pub room_is : room ≡ first
-  pub len_is : len ≡ old
-  pub capacity_is : capacity ≡ before
-
+-- the rows so far are cancelled, with their numbers, and the room stays
 abbrev pub invariant-loop-place : goal.invariant-loop-place
-invariant-loop-place l =
-    Changing l.initial.rows.items l.rows.items l.wants.values l.place l.wants.room l.initial.wants.room
-    (vec_len l.rows) (vec_len l.initial.rows) (vec_capacity l.rows) (vec_capacity l.initial.rows) cancelled_row
+invariant-loop-place l = Evened cancelled_row l.initial.rows l.rows l.wants l.from × (l.from ≤ length l.rows.rows)
+
+abbrev pub decreases-loop-place : goal.decreases-loop-place
+decreases-loop-place l = length l.rows.rows - l.from

@@ -1,26 +1,26 @@
 use Rattle.std.proofs.Common.{map}
 use Rattle.sched_plain.specs.Attempts.{end_attempt}
 use Rattle.sched_plain.specs.Entries.{with_end}
-use Rattle.ledger_rows.proofs.Lookups.{op_done, op_small, end_mild}
-use Rattle.ledger_rows.proofs.NumberLemmas.{numbers_set}
+use Rattle.entry_lines.specs.Rows.{changed, row_there}
+use Rattle.ledger_rows.proofs.Lookups.{mild_done, end_mild}
+use Rattle.ledger_rows.proofs.BlockLemmas.{blocks_but}
+use Rattle.ledger_rows.proofs.Wholes.{whole_set}
 use Rattle.ledger_rows.proofs.lane.end_in.Goals as goal
 
-pub returns-in-Some-clause-lane : goal.returns-in-Some-clause-lane
-returns-in-Some-clause-lane c =
-    (op_done c.args.rows.now.items c.deref.result.now c.args.instant c.in-Some.place c.index_mut-row.result.now c.end.new.row (with_end c.args.verdict c.args.at.0) (map (end_attempt c.args.number c.args.verdict c.args.status))
-    c.deref.ensures.value c.in-Some.ensures.some c.index_mut-row.ensures.value c.requires.lane (end_mild c.args.verdict c.args.at.0 c.requires.at) c.end.ensures.instant c.end.ensures.filed c.end.ensures.attempts).lane
+pub renumber-requires-clause-lane : goal.renumber-requires-clause-lane
+renumber-requires-clause-lane c =
+    (mild_done c.args.rows.now.rows c.end.new.rows.rows c.args.instant c.in-Some.place (with_end c.args.verdict c.args.at.0) (map (end_attempt c.args.number c.args.verdict c.args.status)) c.in-Some.ensures.some c.requires.whole.order (end_mild c.args.verdict c.args.at.0 c.requires.at) c.end.ensures.rows).lane
+
+pub renumber-requires-clause-but : goal.renumber-requires-clause-but
+renumber-requires-clause-but c =
+    blocks_but c.args.rows.now.rows c.end.new.rows.rows c.args.wants.now.values c.in-Some.place (changed (with_end c.args.verdict c.args.at.0) (map (end_attempt c.args.number c.args.verdict c.args.status)) (row_there c.args.rows.now.rows c.in-Some.place)) c.requires.whole.blocks c.end.ensures.rows
+
+pub returns-in-Some-clause-whole : goal.returns-in-Some-clause-whole
+returns-in-Some-clause-whole c =
+    whole_set c.args.rows.now c.end.new.rows c.args.wants.now c.renumber.new.wants c.in-Some.place (changed (with_end c.args.verdict c.args.at.0) (map (end_attempt c.args.number c.args.verdict c.args.status)) (row_there c.args.rows.now.rows c.in-Some.place)) c.requires.whole c.end.ensures.rows c.end.ensures.room
+    (mild_done c.args.rows.now.rows c.end.new.rows.rows c.args.instant c.in-Some.place (with_end c.args.verdict c.args.at.0) (map (end_attempt c.args.number c.args.verdict c.args.status)) c.in-Some.ensures.some c.requires.whole.order (end_mild c.args.verdict c.args.at.0 c.requires.at) c.end.ensures.rows).lane
+    c.renumber.ensures.blocks c.renumber.ensures.length c.renumber.ensures.room
 
 pub returns-in-Some-clause-changes : goal.returns-in-Some-clause-changes
 returns-in-Some-clause-changes c =
-    (op_done c.args.rows.now.items c.deref.result.now c.args.instant c.in-Some.place c.index_mut-row.result.now c.end.new.row (with_end c.args.verdict c.args.at.0) (map (end_attempt c.args.number c.args.verdict c.args.status))
-    c.deref.ensures.value c.in-Some.ensures.some c.index_mut-row.ensures.value c.requires.lane (end_mild c.args.verdict c.args.at.0 c.requires.at) c.end.ensures.instant c.end.ensures.filed c.end.ensures.attempts).changes
-
-pub returns-in-Some-clause-numbers : goal.returns-in-Some-clause-numbers
-returns-in-Some-clause-numbers c = (
-  numbers_set c.args.rows.now.items c.in-Some.place c.wants.result c.end.new.row c.args.wants.now.values c.set.new.self.values c.requires.numbers c.set.ensures.values c.wants.ensures,
-  c.set.ensures.room,
-)
-
-pub wants-requires : goal.wants-requires
-wants-requires c =
-    op_small c.args.rows.now.items c.deref.result.now c.args.instant c.in-Some.place c.index_mut-row.result.now c.end.new.row (with_end c.args.verdict c.args.at.0) c.deref.ensures.value c.in-Some.ensures.some c.index_mut-row.ensures.value c.requires.lane (end_mild c.args.verdict c.args.at.0 c.requires.at) c.end.ensures.filed
+    (mild_done c.args.rows.now.rows c.end.new.rows.rows c.args.instant c.in-Some.place (with_end c.args.verdict c.args.at.0) (map (end_attempt c.args.number c.args.verdict c.args.status)) c.in-Some.ensures.some c.requires.whole.order (end_mild c.args.verdict c.args.at.0 c.requires.at) c.end.ensures.rows).changes

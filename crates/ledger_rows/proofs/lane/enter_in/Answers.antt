@@ -1,31 +1,33 @@
-use Rattle.std.proofs.Common.{arith}
-use Rattle.ledger_rows.proofs.Entrances.{entering_step, new_small}
-use Rattle.ledger_rows.proofs.NumberLemmas.{numbers_push}
+use Rattle.std.proofs.Common.{map, arith}
+use Rattle.entry_lines.specs.Rows.{new_row}
+use Rattle.ledger_rows.proofs.BlockLemmas.{blocks_before}
+use Rattle.ledger_rows.proofs.Wholes.{entered_lane, entered_long}
 use Rattle.ledger_rows.proofs.lane.enter_in.Goals as goal
 
-pub wants-requires : goal.wants-requires
-wants-requires c =
-    new_small c.args.policy c.args.pairs.now c.args.rows.now.items c.loop-pair.pair-index _ c.new_row-row.result c.requires.entrance c.loop-pair-test.true c.new_row-row.ensures.few c.new_row-row.ensures.row
+pub fill_last-requires-clause-lane : goal.fill_last-requires-clause-lane
+fill_last-requires-clause-lane c =
+    entered_lane c.args.policy c.args.pairs.now c.args.rows.now.rows c.enter.new.self.rows c.requires.entrance c.requires.whole.order (omega arith) c.enter.ensures.rows
 
-pub push-requires : goal.push-requires
-push-requires c = omega (arith, c.loop-pair.invariant.used_up, c.requires.wants_room, c.loop-pair-test.true)
+pub fill_last-requires-clause-but : goal.fill_last-requires-clause-but
+fill_last-requires-clause-but c =
+    blocks_before c.args.rows.now.rows (map (new_row c.args.policy) c.args.pairs.now) c.enter.new.self.rows c.args.wants.now.values c.requires.whole.blocks c.enter.ensures.rows
 
-pub loop-pair-preserved : goal.loop-pair-preserved
-loop-pair-preserved c =
-    let next = entering_step c.args.policy c.args.pairs.now c.args.rows.now.items c.loop-pair.rows.items c.put_last.new.rows.items c.loop-pair.pair-index _ c.new_row-row.result
-    c.requires.entrance c.requires.lane c.loop-pair.invariant.lane c.loop-pair.invariant.rows c.loop-pair-test.true c.new_row-row.ensures.few c.new_row-row.ensures.row c.put_last.ensures.rows in
+pub number_more-requires-clause-lane : goal.number_more-requires-clause-lane
+number_more-requires-clause-lane c =
+    entered_lane c.args.policy c.args.pairs.now c.args.rows.now.rows c.enter.new.self.rows c.requires.entrance c.requires.whole.order (omega arith) c.enter.ensures.rows
+
+pub number_more-requires-clause-room : goal.number_more-requires-clause-room
+number_more-requires-clause-room c =
+    let long = entered_long c.args.policy c.args.pairs.now c.args.rows.now.rows c.enter.new.self.rows c.enter.ensures.rows in
+    let ready = c.requires.whole.ready in
+    omega (arith, long, ready, c.requires.room, c.fill_last.ensures.length, c.fill_last.ensures.room)
+
+pub returns-clause-whole : goal.returns-clause-whole
+returns-clause-whole c =
+    let long = entered_long c.args.policy c.args.pairs.now c.args.rows.now.rows c.enter.new.self.rows c.enter.ensures.rows in
+    let ready = c.requires.whole.ready in
     record {
-      lane = next.lane;
-      rows = next.rows;
-      left = omega (arith, c.loop-pair.invariant.left, c.put_last.ensures.capacity);
-      grown = omega (arith, c.loop-pair.invariant.grown, c.put_last.ensures.capacity);
-      numbers_are = numbers_push c.loop-pair.rows.items c.put_last.new.rows.items c.new_row-row.result c.wants.result c.loop-pair.wants.values c.push.new.self.values
-          c.loop-pair.invariant.numbers_are c.push.ensures.values c.wants.ensures c.put_last.ensures.rows;
-      used_up = omega (arith, c.loop-pair.invariant.used_up, c.push.ensures.room);
+      order = entered_lane c.args.policy c.args.pairs.now c.args.rows.now.rows c.enter.new.self.rows c.requires.entrance c.requires.whole.order (omega arith) c.enter.ensures.rows;
+      blocks = c.number_more.ensures.blocks;
+      ready = omega (arith, long, ready, c.requires.room, c.fill_last.ensures.length, c.fill_last.ensures.room, c.enter.ensures.room, c.number_more.ensures.room);
     }
-
-pub returns-clause-numbers : goal.returns-clause-numbers
-returns-clause-numbers c = (
-  c.loop-pair.invariant.numbers_are,
-  omega (arith, c.loop-pair.invariant.used_up, c.loop-pair-test.false, c.loop-pair.auto.pair-index-end),
-)

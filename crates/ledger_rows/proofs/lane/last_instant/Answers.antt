@@ -1,14 +1,16 @@
-use Rattle.std.proofs.Common.{◌≡◌, ◌==◌, false, length, sym, ◌∙◌, arith}
-use Rattle.std.proofs.lemmas.Bool.Decides.{nat_tests}
+use Rattle.std.proofs.Common.{◌≡◌, ℕ, ◌-◌, ◌<◌, length, ap, ◌∙◌, arith}
+use Rattle.entry_lines.specs.Rows.{no_row, row_there}
 use Rattle.ledger_rows.proofs.Entrances.{last_above, last_is_top}
 use Rattle.ledger_rows.proofs.lane.last_instant.Goals as goal
 
-pub returns-clause-top : goal.returns-clause-top
-returns-clause-top c =
-    let e : (length c.args.rows.now == 0) ≡ false = sym c.is_empty.ensures ∙ c.if-is_empty.false in
-    last_is_top c.args.rows.now c.index-rows-rows.result c.requires (grind (arith, nat_tests))
+pub returns-in_default-clause-top : goal.returns-in_default-clause-top
+returns-in_default-clause-top c = λ j lt.
+    let some : 0 < length c.args.rows.now.rows = omega (arith, c.in_default, c.len.ensures.value) in
+    let here : c.instant.result ≡ (row_there c.args.rows.now.rows (length c.args.rows.now.rows - 1)).instant = c.instant.ensures ∙ ap (λ (n : ℕ). (row_there c.args.rows.now.rows (n - 1)).instant) c.len.ensures.value in
+    let top = last_is_top c.args.rows.now.rows no_row c.requires some j lt in omega (arith, here, top)
 
-pub returns-clause-next : goal.returns-clause-next
-returns-clause-next c = λ p behind.
-    let e : (length c.args.rows.now == 0) ≡ false = sym c.is_empty.ensures ∙ c.if-is_empty.false in
-    last_above c.args.rows.now c.index-rows-rows.result p (grind (arith, nat_tests)) behind
+pub returns-in_default-clause-next : goal.returns-in_default-clause-next
+returns-in_default-clause-next c = λ p behind.
+    let some : 0 < length c.args.rows.now.rows = omega (arith, c.in_default, c.len.ensures.value) in
+    let here : c.instant.result ≡ (row_there c.args.rows.now.rows (length c.args.rows.now.rows - 1)).instant = c.instant.ensures ∙ ap (λ (n : ℕ). (row_there c.args.rows.now.rows (n - 1)).instant) c.len.ensures.value in
+    let above = last_above c.args.rows.now.rows no_row p some behind in omega (arith, here, above)

@@ -1,38 +1,26 @@
-use Rattle.std.proofs.Common.{refl, ◌∙◌, arith}
-use Rattle.ledger_rows.specs.Rows.{lost_row}
-use Rattle.ledger_rows.proofs.Lookups.{lost_even}
-use Rattle.ledger_rows.proofs.NumberLemmas.{mapping_begins, mapping_step, mapping_ends, small_mapped}
+use Rattle.std.proofs.Common.{map}
+use Rattle.sched_plain.specs.Attempts.{lose_attempt}
+use Rattle.sched_plain.specs.Entries.{with_loss}
+use Rattle.entry_lines.specs.Rows.{changed, row_there}
+use Rattle.ledger_rows.proofs.Lookups.{mild_done, loss_mild}
+use Rattle.ledger_rows.proofs.BlockLemmas.{blocks_but}
+use Rattle.ledger_rows.proofs.Wholes.{whole_set}
 use Rattle.ledger_rows.proofs.lane.lose_in.Goals as goal
 
-pub loop-place-init : goal.loop-place-init
-loop-place-init c = record {
-  mapped = mapping_begins (lost_row c.args.at.0) c.args.rows.now.items c.args.wants.now.values c.requires.lane c.requires.numbers;
-  room_is = refl;
-  len_is = refl;
-  capacity_is = refl;
-}
+pub renumber-requires-clause-lane : goal.renumber-requires-clause-lane
+renumber-requires-clause-lane c =
+    (mild_done c.args.rows.now.rows c.lose.new.rows.rows c.args.instant c.in-Some.place (with_loss c.args.at.0) (map lose_attempt) c.in-Some.ensures.some c.requires.whole.order (loss_mild c.args.at.0 c.requires.at) c.lose.ensures.rows).lane
 
-pub loop-place-preserved : goal.loop-place-preserved
-loop-place-preserved c = record {
-  mapped = mapping_step (lost_row c.args.at.0) c.args.rows.now.items c.loop-place.rows.items c.loop-place.wants.values c.set.new.self.values c.loop-place.place c.wants.result
-      c.index_mut-row.result.now c.lose.new.row (lost_even c.args.at.0 c.requires.at) c.loop-place.invariant.mapped (omega (arith, c.loop-place-test.true, c.len-place-end.ensures, c.args.rows.now.ok))
-      c.index_mut-row.ensures.value c.lose.ensures c.set.ensures.values c.wants.ensures;
-  room_is = c.set.ensures.room ∙ c.loop-place.invariant.room_is;
-  len_is = c.loop-place.invariant.len_is;
-  capacity_is = c.loop-place.invariant.capacity_is;
-}
+pub renumber-requires-clause-but : goal.renumber-requires-clause-but
+renumber-requires-clause-but c =
+    blocks_but c.args.rows.now.rows c.lose.new.rows.rows c.args.wants.now.values c.in-Some.place (changed (with_loss c.args.at.0) (map lose_attempt) (row_there c.args.rows.now.rows c.in-Some.place)) c.requires.whole.blocks c.lose.ensures.rows
 
-pub wants-requires : goal.wants-requires
-wants-requires c =
-    small_mapped (lost_row c.args.at.0) c.loop-place.rows.items c.loop-place.place c.index_mut-row.result.now c.lose.new.row (lost_even c.args.at.0 c.requires.at) c.loop-place.invariant.mapped.lane
-    (omega (arith, c.loop-place-test.true, c.len-place-end.ensures, c.args.rows.now.ok, c.loop-place.invariant.mapped.long)) c.index_mut-row.ensures.value c.lose.ensures
+pub returns-in-Some-clause-whole : goal.returns-in-Some-clause-whole
+returns-in-Some-clause-whole c =
+    whole_set c.args.rows.now c.lose.new.rows c.args.wants.now c.renumber.new.wants c.in-Some.place (changed (with_loss c.args.at.0) (map lose_attempt) (row_there c.args.rows.now.rows c.in-Some.place)) c.requires.whole c.lose.ensures.rows c.lose.ensures.room
+    (mild_done c.args.rows.now.rows c.lose.new.rows.rows c.args.instant c.in-Some.place (with_loss c.args.at.0) (map lose_attempt) c.in-Some.ensures.some c.requires.whole.order (loss_mild c.args.at.0 c.requires.at) c.lose.ensures.rows).lane
+    c.renumber.ensures.blocks c.renumber.ensures.length c.renumber.ensures.room
 
-pub returns : goal.returns
-returns c = record {
-  lane = c.loop-place.invariant.mapped.lane;
-  numbers = (c.loop-place.invariant.mapped.numbers_are, c.loop-place.invariant.room_is);
-  rows =
-      c.loop-place.invariant.mapped.are
-      ∙ mapping_ends (lost_row c.args.at.0) c.args.rows.now.items c.loop-place.place (omega (arith, c.loop-place-test.false, c.len-place-end.ensures, c.args.rows.now.ok));
-  size = (c.loop-place.invariant.len_is, c.loop-place.invariant.capacity_is);
-}
+pub returns-in-Some-clause-changes : goal.returns-in-Some-clause-changes
+returns-in-Some-clause-changes c =
+    (mild_done c.args.rows.now.rows c.lose.new.rows.rows c.args.instant c.in-Some.place (with_loss c.args.at.0) (map lose_attempt) c.in-Some.ensures.some c.requires.whole.order (loss_mild c.args.at.0 c.requires.at) c.lose.ensures.rows).changes

@@ -7,17 +7,17 @@ pub loop-pair-init : goal.loop-pair-init
 loop-pair-init c = record {
   entrance = search rules;
   top = search rules;
-  next = λ may j le lt. begins_above c.args.rows.now c.args.pairs.now c.last_instant-last.result c.last_instant-last.ensures.next may j lt;
+  next = λ may j le lt. begins_above c.args.rows.now.rows c.args.pairs.now c.last_instant-last.result c.last_instant-last.ensures.next may j lt;
 }
 
 pub loop-pair-preserved : goal.loop-pair-preserved
 loop-pair-preserved c =
     let good = c.is_next.ensures.says c.if-not-is_next.false in
-    let next = follow_step c.args.rows.now c.args.pairs.now c.loop-pair.pair-index c.loop-pair.last _ c.loop-pair.invariant.entrance c.loop-pair.invariant.top c.loop-pair-test.true good.0 good.1 in
+    let next = follow_step c.args.rows.now.rows c.args.pairs.now c.loop-pair.pair-index c.loop-pair.last _ c.loop-pair.invariant.entrance c.loop-pair.invariant.top c.loop-pair-test.true good.0 good.1 in
     record {
       entrance = next.entrance;
       top = next.top;
-      next = λ may j le lt. next_above (pairs_of c.args.rows.now) c.args.pairs.now c.loop-pair.pair-index j _ may (omega (arith, le)) lt;
+      next = λ may j le lt. next_above (pairs_of c.args.rows.now.rows) c.args.pairs.now c.loop-pair.pair-index j _ may (omega (arith, le)) lt;
     }
 
 pub returns-then-not-is_next-clause-all : goal.returns-then-not-is_next-clause-all

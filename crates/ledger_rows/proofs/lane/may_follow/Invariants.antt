@@ -1,7 +1,7 @@
 use Rattle.std.proofs.Common.{ℕ, ◌≤◌, ◌<◌, ◌++◌, Option, List, length, take, slice_index}
 use Rattle.sched_plain.specs.declared.step.Pair.{Pair}
 use Rattle.sched_plain.specs.Entries.{instants_of}
-use Rattle.ledger_rows.specs.declared.row.Row.{Row}
+use Rattle.entry_lines.specs.Rows.{Row}
 use Rattle.ledger_rows.specs.Rows.{instants_in, pairs_of, IsEntrance, IsTop, IsAbove}
 use Rattle.ledger_rows.proofs.lane.may_follow.Given as goal
 
@@ -12,4 +12,4 @@ pub record Following (rows : List Row) (pairs : List Pair) (index : ℕ) (last :
   pub next : IsEntrance (pairs_of rows) pairs → (j : ℕ) → index ≤ j → j < length pairs → IsAbove last (slice_index (instants_of pairs) j)
 
 abbrev pub invariant-loop-pair : goal.invariant-loop-pair
-invariant-loop-pair l = Following l.rows l.pairs l.pair-index l.last
+invariant-loop-pair l = Following l.rows.rows l.pairs l.pair-index l.last

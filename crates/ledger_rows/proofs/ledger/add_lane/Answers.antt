@@ -1,6 +1,6 @@
 use Rattle.std.proofs.Common.{◌≡◌, ℕ, ◌%◌, List, length, sym, ap, subst, arith}
 use Rattle.plain_words.specs.declared.limits.TheConstants.{SHARDS}
-use Rattle.ledger_rows.specs.Rows.{LaneRows}
+use Rattle.entry_lines.specs.Rows.{LaneRows}
 use Rattle.ledger_rows.specs.Shelves.{AreShelved, IsLonger}
 use Rattle.ledger_rows.proofs.ShelfLemmas.{shelved_same, shelved_longer}
 use Rattle.ledger_rows.proofs.ledger.add_lane.Goals as goal

@@ -2,7 +2,8 @@ use Rattle.std.proofs.Common.{ℕ, ◌+◌, ap, ap₂, sym, ◌∙◌, arith}
 use Rattle.std.proofs.lemmas.List.{get_or_default}
 use Rattle.sched_plain.specs.Report.{number_of}
 use Rattle.ledger_rows.specs.Counting.{is_kind}
-use Rattle.ledger_rows.specs.Rows.{LaneRows, standings_looked}
+use Rattle.ledger_rows.specs.Rows.{standings_looked}
+use Rattle.entry_lines.specs.Rows.{LaneRows}
 use Rattle.ledger_rows.specs.State.{no_lane}
 use Rattle.ledger_rows.proofs.Tallies.{one_more_lane}
 use Rattle.ledger_rows.proofs.ledger.number_of.Goals as goal

@@ -4,7 +4,7 @@ use Rattle.plain_words.specs.Lists.{numbers}
 use Rattle.sched_plain.specs.Report.{number_of}
 use Rattle.ledger_rows.specs.declared.counts.Kind.{Kind}
 use Rattle.ledger_rows.specs.Counting.{is_kind}
-use Rattle.ledger_rows.specs.Rows.{LaneRows}
+use Rattle.entry_lines.specs.Rows.{LaneRows}
 use Rattle.ledger_rows.specs.State.{lane_standings}
 use Rattle.ledger_rows.proofs.ledger.number_of.Given as goal
 

@@ -2,7 +2,7 @@ use Rattle.std.proofs.Common.{◌+◌, ◌-◌, ◌≤◌, List, length}
 use Rattle.min_tree.specs.Numbers.{Numbers}
 use Rattle.plain_words.specs.declared.limits.TheConstants.{SHARDS}
 use Rattle.ledger_rows.specs.Shelves.{AreShelved}
-use Rattle.ledger_rows.specs.Rows.{LaneRows}
+use Rattle.entry_lines.specs.Rows.{LaneRows}
 use Rattle.ledger_rows.specs.State.{RowsAre, same_rows}
 use Rattle.ledger_rows.proofs.ledger.widen.Given as goal
 

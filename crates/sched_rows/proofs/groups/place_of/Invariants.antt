@@ -7,8 +7,8 @@ abbrev pub invariant-loop-low : goal.invariant-loop-low
 invariant-loop-low l = record {
   order : l.low ≤ l.high;
   within : l.high ≤ length l.places;
-  front : 1 ≤ l.low → group_short l.groups l.name (slice_index l.places (l.low - 1)) ≡ true;
-  back : l.high < length l.places → group_short l.groups l.name (slice_index l.places l.high) ≡ false;
+  front : 1 ≤ l.low → group_short l.groups l.name l.edge (slice_index l.places (l.low - 1)) ≡ true;
+  back : l.high < length l.places → group_short l.groups l.name l.edge (slice_index l.places l.high) ≡ false;
 }
 
 abbrev pub decreases-loop-low : goal.decreases-loop-low

@@ -1,18 +1,17 @@
-use Rattle.std.proofs.Common.{List, length, ◌∙◌, ap, arith}
-use Rattle.sched_plain.specs.declared.step.Step.{Step}
-use Rattle.sched_plain.specs.Legal.{why}
-use Rattle.book_core.specs.InUse.{calendar}
-use Rattle.book_core.specs.State.{State, history_of}
-use Rattle.plain_words.proofs.Options.{on_ok}
-use Rattle.book_core.proofs.RoomLemmas.{few_airborne}
+use Rattle.std.proofs.Common.{sym, subst}
+use Rattle.book_core.specs.State.{Booked, May, Stands}
+use Rattle.book_core.proofs.RoomLemmas.{back, onward}
+use Rattle.book_core.proofs.SoundLemmas.{sound_with_room}
 use Rattle.book_core.proofs.book.BookMachine.reserve.Goals as goal
 
-pub returns-clause-broken : goal.returns-clause-broken
-returns-clause-broken c = λ s.
-    ap (λ (xs : List Step). why calendar (history_of xs) s) (c.reserve.ensures.items ∙ ap (λ (b : State). b.steps) c.self.view_is)
+pub invariant_of-self : goal.invariant_of-self
+invariant_of-self c = sound_with_room c.reserve.ensures.same c.self.invariant
 
-pub returns-clause-room : goal.returns-clause-room
-returns-clause-room c =
-    on_ok c.reserve.result _ _
-    (λ p. omega (arith, p, few_airborne c.reserve.new.self.items c.args.step.now, ap length c.reserve.ensures.items, ap length c.as_slice.ensures.value))
-    c.reserve.ensures.ok
+pub returns-clause-stands : goal.returns-clause-stands
+returns-clause-stands c = λ h st.
+    let old = subst (λ (b : Booked). Stands b h) (sym c.self.view_is) st in
+    record { parts = onward c.reserve.ensures.same h old.parts; valid = old.valid }
+
+pub returns-clause-may : goal.returns-clause-may
+returns-clause-may c = λ s may h st.
+    subst (λ (b : Booked). May b s) (sym c.self.view_is) may h (record { parts = back c.reserve.ensures.same h st.parts; valid = st.valid })

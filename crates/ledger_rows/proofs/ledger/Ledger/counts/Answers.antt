@@ -2,7 +2,7 @@ use Rattle.std.proofs.Common.{List, length, sym, ap, ◌∙◌, subst}
 use Rattle.std.specs.List.{flat_map}
 use Rattle.plain_words.specs.Lists.{numbers}
 use Rattle.ledger_rows.specs.Counting.{counted}
-use Rattle.ledger_rows.specs.Rows.{LaneRows}
+use Rattle.entry_lines.specs.Rows.{LaneRows}
 use Rattle.ledger_rows.specs.State.{State, Stands, lane_standings}
 use Rattle.ledger_rows.proofs.Tallies.{all_are}
 use Rattle.ledger_rows.proofs.ledger.Ledger.counts.Goals as goal

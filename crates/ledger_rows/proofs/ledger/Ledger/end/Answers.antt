@@ -1,8 +1,9 @@
-use Rattle.std.proofs.Common.{arith, sym, subst}
+use Rattle.std.proofs.Common.{◌≡◌, true, arith, sym, subst}
 use Rattle.ledger_rows.proofs.FlightLemmas.{flown_ended}
 use Rattle.std.specs.Prelude.{map}
-use Rattle.sched_plain.specs.Attempts.{end_attempt}
-use Rattle.ledger_rows.specs.State.{AreFlown}
+use Rattle.sched_plain.specs.Attempts.{end_attempt, is_live_attempt}
+use Rattle.ledger_rows.specs.State.{AreFlown, State, filed_in}
+use Rattle.ledger_rows.proofs.LastLive.{last_ended}
 use Rattle.ledger_rows.proofs.ledger.Ledger.end.Goals as goal
 
 pub invariant_of-self : goal.invariant_of-self
@@ -10,4 +11,5 @@ invariant_of-self c = (
   omega (arith, c.end_in.ensures.length, c.self.invariant.0),
   c.end_in.ensures.shelved,
   subst (AreFlown c.end_in.new.lanes.items) (sym c.land.ensures) (flown_ended c.self.inside.lanes.items c.end_in.new.lanes.items c.self.inside.flights.items c.args.inc c.args.instant c.args.at.0 c.args.verdict (map (end_attempt c.args.number c.args.verdict c.args.status)) c.end_in.ensures.changes c.self.invariant.2),
+  last_ended c.self.inside.lanes.items c.end_in.new.lanes.items c.args.inc c.args.instant c.args.at.0 c.args.number c.args.status c.args.verdict (subst (λ (s : State). is_live_attempt (filed_in s.lanes c.args.inc c.args.instant) c.args.number ≡ true) (sym c.self.view_is) c.requires.live) c.end_in.ensures.changes c.self.invariant.3,
 )

@@ -1,7 +1,7 @@
 use Rattle.std.proofs.Common.{List, ap, sym, ◌∙◌, subst}
 use Rattle.sched_plain.specs.Entries.{instants_of}
 use Rattle.plain_words.specs.Lists.{last}
-use Rattle.ledger_rows.specs.Rows.{LaneRows}
+use Rattle.entry_lines.specs.Rows.{LaneRows}
 use Rattle.ledger_rows.specs.State.{State, Stands, pairs_in}
 use Rattle.ledger_rows.proofs.ledger.Ledger.last_entered.Goals as goal
 

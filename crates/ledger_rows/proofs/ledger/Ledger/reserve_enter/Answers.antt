@@ -1,4 +1,5 @@
 use Rattle.ledger_rows.proofs.FlightLemmas.{flown_same}
+use Rattle.ledger_rows.proofs.LastLive.{last_same}
 use Rattle.ledger_rows.proofs.ledger.Ledger.reserve_enter.Goals as goal
 
 pub invariant_of-self : goal.invariant_of-self
@@ -6,4 +7,5 @@ invariant_of-self c = (
   c.reserve_in.ensures.few,
   c.reserve_in.ensures.shelved,
   flown_same c.self.inside.lanes.items c.reserve_in.new.lanes.items c.self.inside.flights.items c.reserve_in.ensures.rows c.self.invariant.2,
+  last_same c.self.inside.lanes.items c.reserve_in.new.lanes.items c.reserve_in.ensures.rows c.self.invariant.3,
 )

@@ -3,7 +3,8 @@ use Rattle.std.specs.List.{filter}
 use Rattle.sched_plain.specs.declared.entry.Filed.{Filed}
 use Rattle.sched_plain.specs.declared.step.Pair.{Pair}
 use Rattle.sched_plain.specs.Entries.{instants_of, is_open}
-use Rattle.ledger_rows.specs.Rows.{LaneRows, open_in}
+use Rattle.ledger_rows.specs.Rows.{open_in}
+use Rattle.entry_lines.specs.Rows.{LaneRows}
 use Rattle.ledger_rows.specs.State.{State, Stands, lane_of}
 use Rattle.ledger_rows.proofs.ledger.Ledger.undecided.Goals as goal
 

@@ -1,0 +1,3 @@
+pub mod ActLemmas
+pub mod RuleLemmas
+pub mod TakingLemmas

@@ -1,0 +1,64 @@
+-- What the faults of each call say of the step that was not added, and for what a step of each kind may be denied.
+use Rattle.sched_plain.specs.declared.why.Why.TheVariants as whys
+use Rattle.durable_book.specs.declared.denial.Denial.{Denial}
+use Rattle.durable_book.specs.declared.denial.Denial.TheVariants as denials
+use Rattle.durable_book.specs.declared.complete_fault.CompleteFault.{CompleteFault}
+use Rattle.durable_book.specs.declared.complete_fault.CompleteFault.TheVariants as completes
+use Rattle.durable_book.specs.declared.hold_fault.HoldFault.{HoldFault}
+use Rattle.durable_book.specs.declared.hold_fault.HoldFault.TheVariants as holds
+use Rattle.durable_book.specs.declared.lease_fault.LeaseFault.{LeaseFault}
+use Rattle.durable_book.specs.declared.lease_fault.LeaseFault.TheVariants as leases
+use Rattle.durable_book.specs.declared.swept_fault.SweptFault.{SweptFault}
+use Rattle.durable_book.specs.declared.swept_fault.SweptFault.TheVariants as sweeps
+
+-- why a shard is not taken
+abbrev pub lease_denial : LeaseFault → Denial
+lease_denial (leases.Held worker until) = denials.Rule (whys.Held worker until)
+lease_denial (leases.Full end need) = denials.Full end need
+lease_denial leases.DiskFault = denials.DiskFault
+lease_denial leases.OutOfMemory = denials.OutOfMemory
+
+-- a taking breaks no rule but that another worker holds the shard
+abbrev pub IsOfTaking : Denial → Type 0
+IsOfTaking (denials.Rule (whys.Held worker until)) = Unit {0}
+IsOfTaking (denials.Rule other) = ⊥
+IsOfTaking other = Unit {0}
+
+-- why a worker's hold is not changed
+abbrev pub hold_denial : HoldFault → Denial
+hold_denial (holds.Stale epoch) = denials.Rule (whys.Stale epoch)
+hold_denial (holds.Full end need) = denials.Full end need
+hold_denial holds.DiskFault = denials.DiskFault
+hold_denial holds.OutOfMemory = denials.OutOfMemory
+
+-- a Release breaks no rule but that the worker is not the last taker
+abbrev pub IsOfHolding : Denial → Type 0
+IsOfHolding (denials.Rule (whys.Stale epoch)) = Unit {0}
+IsOfHolding (denials.Rule other) = ⊥
+IsOfHolding other = Unit {0}
+
+-- why a schedule is not removed
+abbrev pub complete_denial : CompleteFault → Denial
+complete_denial completes.NotYet = denials.Rule whys.NotComplete
+complete_denial (completes.Full end need) = denials.Full end need
+complete_denial completes.DiskFault = denials.DiskFault
+complete_denial completes.OutOfMemory = denials.OutOfMemory
+
+-- a Complete breaks no rule but that the schedule is not finished
+abbrev pub IsOfCompleting : Denial → Type 0
+IsOfCompleting (denials.Rule whys.NotComplete) = Unit {0}
+IsOfCompleting (denials.Rule other) = ⊥
+IsOfCompleting other = Unit {0}
+
+-- why a shard is not marked as swept
+abbrev pub swept_denial : SweptFault → Denial
+swept_denial (sweeps.Again work) = denials.Rule (whys.Work work)
+swept_denial (sweeps.Full end need) = denials.Full end need
+swept_denial sweeps.DiskFault = denials.DiskFault
+swept_denial sweeps.OutOfMemory = denials.OutOfMemory
+
+-- a Swept breaks no rule but that there is work
+abbrev pub IsOfSweeping : Denial → Type 0
+IsOfSweeping (denials.Rule (whys.Work work)) = Unit {0}
+IsOfSweeping (denials.Rule other) = ⊥
+IsOfSweeping other = Unit {0}

@@ -1,0 +1,2 @@
+mod Aloft
+mod Counted

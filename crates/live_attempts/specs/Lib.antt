@@ -1,0 +1,2 @@
+pub mod AirLaws
+pub mod CountLaws

@@ -1,0 +1,12 @@
+pub mod InUse
+pub mod Form
+pub mod Track
+pub mod Births
+pub mod Small
+pub mod State
+pub mod Open
+pub mod Questions
+pub mod Creations
+pub mod Answers
+pub mod Flights
+pub mod Made

@@ -1,0 +1,4 @@
+mod Pairs
+mod Tokens
+mod Read
+mod Bodies

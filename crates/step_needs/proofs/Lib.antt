@@ -1,0 +1,4 @@
+mod MomentLemmas
+pub mod TenureLemmas
+pub mod EntryLemmas
+pub mod WriteLemmas

@@ -1,0 +1,17 @@
+mod Found
+mod Follow
+mod Rest
+mod Sums
+mod Drops
+mod Entering
+mod Completing
+mod Limits
+mod Valid
+mod Kept
+mod OneWay
+mod Small
+mod Words
+mod Catching
+mod WorkedOut
+mod Holders
+mod Additions

@@ -1,0 +1,9 @@
+pub mod FollowLaws
+pub mod RestLaws
+pub mod LoadLaws
+pub mod ValidLaws
+pub mod KeptLaws
+pub mod OneLaws
+pub mod EndLaws
+pub mod HoldLaws
+pub mod AddLaws

@@ -1,0 +1,5 @@
+pub mod BehindLemmas
+pub mod PlanLemmas
+pub mod FollowLemmas
+pub mod ServeLemmas
+pub mod CauseLemmas
