@@ -1,3 +1,5 @@
 pub mod ActLemmas
+pub mod ClosingLemmas
+pub mod EntryLemmas
 pub mod RuleLemmas
 pub mod TakingLemmas

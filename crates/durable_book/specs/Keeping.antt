@@ -26,3 +26,8 @@ IsUnkept full denials.OutOfMemory = Unit {0}
 -- the step is denied for its cause over a history that is no later than it
 abbrev pub IsDenied : (Step → ℕ → ℕ → Type 0) → Step → Denial → History → Type 0
 IsDenied full s denial h = IsCause full s denial h × (moment h ≤ at_of s)
+
+-- it is denied for a rule
+abbrev pub IsRule : Denial → Type 0
+IsRule (denials.Rule broken) = Unit {0}
+IsRule other = ⊥

@@ -1,4 +1,5 @@
 pub mod Acts
+pub mod Causes
 pub mod Faults
 pub mod Keeping
 pub mod Steps

@@ -6,11 +6,13 @@ ghost use Rattle.sched_plain.specs.Legal.{MayFollow};
 ghost use Rattle.sched_plain.specs.Moments.{moment, at_of};
 ghost use Rattle.sched_plain.specs.Validity.{IsValid};
 ghost use Rattle.sched_calls.specs.Serves.{Finds};
+ghost use Rattle.book_parts.specs.Legal.{WantsNoMemory};
 ghost use Rattle.book_parts.specs.Stands.{calendar};
 ghost use Rattle.step_machine.specs.Ends.{IsEnd};
 ghost use Rattle.step_keeper.specs.Carrying.{Carries, CarriesTo, Shows, same};
 ghost use Rattle.durable_book.specs.Acts.{Puts, Refuses, IsCause, DiskRose};
-ghost use Rattle.durable_book.specs.Keeping.{IsJudged, IsUnkept, IsDenied};
+ghost use Rattle.durable_book.specs.Faults.{IsOfEnding};
+ghost use Rattle.durable_book.specs.Keeping.{IsJudged, IsRule, IsUnkept, IsDenied};
 
 use crate::denial::Denial;
 use sched_plain::Step;
@@ -31,12 +33,13 @@ pub fn mend<K: Keeper>(keeper: &mut K) -> Result<(), DiskFault>
 }
 
 /// Whether a step may follow; else the first rule that it breaks. Only a Zone and an Enter are judged with memory.
-fn judge<M: Machine>(machine: &M, step: &Step) -> Result<(), Denial>
+pub(crate) fn judge<M: Machine>(machine: &M, step: &Step) -> Result<(), Denial>
     requires { IsValid step.now }
     ensures follows { OnOk result ((h : History) → M.stands machine.now h → MayFollow calendar h step.now) }
     ensures may { OnOk result (M.may machine.now step.now) }
     ensures end_has_room { OnOk result (IsEnd step.now → M.has_room machine.now step.now) }
     ensures denied { IfErr result (λ denial. (h : History) → M.stands machine.now h → IsJudged step.now denial h) }
+    ensures memory { WantsNoMemory step.now → IfErr result IsRule }
     ensures disk { IfErr result (λ denial. (n : ℕ) → DiskRose n n denial) }
 {
     match machine.legal(step) {
@@ -47,13 +50,14 @@ fn judge<M: Machine>(machine: &M, step: &Step) -> Result<(), Denial>
 }
 
 /// Keeps a step that may follow and has room.
-fn put<K: Keeper>(keeper: &mut K, step: Step) -> Result<(), Denial>
+pub(crate) fn put<K: Keeper>(keeper: &mut K, step: Step) -> Result<(), Denial>
     requires valid { IsValid step }
     requires may { K.Book.may (K.book_of keeper.old) step }
     requires room { K.Book.has_room (K.book_of keeper.old) step }
     ensures kept { OnOk result (CarriesTo (K.stands keeper.old) (K.stands keeper.new) (λ h. step upon h)) }
     ensures stays { OnErr result (CarriesTo (K.stands keeper.old) (K.held keeper.new) same) }
     ensures cause { IfErr result (IsUnkept (K.full keeper.new step)) }
+    ensures ends { IsEnd step → IfErr result IsOfEnding }
     ensures disk { IfErr result (DiskRose (K.faults keeper.old) (K.faults keeper.new)) }
     ensures latest { K.latest keeper.old ≤ at_of step → K.latest keeper.new ≤ at_of step }
     ensures faults { K.faults keeper.old ≤ K.faults keeper.new }
@@ -82,8 +86,10 @@ fn place<K: Keeper>(keeper: &mut K, step: Step) -> Result<(), Denial>
     put(keeper, step)
 }
 
-/// Adds a step at a moment that is no earlier than the keeper's, where no step is in doubt.
-pub(crate) fn add<K: Keeper>(keeper: &mut K, step: Step) -> Result<(), Denial>
+/// Adds a step, where no step is in doubt. Ok comes exactly where it may follow and was kept: then it is upon the history.
+/// After a refusal the history is as it was; the step broke a rule, which is told, or may follow and has no room, or a call
+/// of the disk failed, or memory was wanted. The keeper's moment is then at most that of the step, if it was before.
+pub fn add<K: Keeper>(keeper: &mut K, step: Step) -> Result<(), Denial>
     requires valid { IsValid step }
     ensures kept { OnOk result (CarriesTo (K.stands keeper.old) (K.stands keeper.new) (λ h. step upon h)) }
     ensures stays { OnErr result (CarriesTo (K.stands keeper.old) (K.held keeper.new) same) }

@@ -1,8 +1,9 @@
 ghost use Rattle.std.specs.Prelude.{◌≡◌};
 ghost use Rattle.durable_book.specs.declared.denial.Denial.TheVariants as denials;
-ghost use Rattle.durable_book.specs.Faults.{hold_denial, IsOfHolding};
+ghost use Rattle.durable_book.specs.Faults.{grow_denial, hold_denial, IsOfHolding};
 
 use crate::denial::Denial;
+use crate::grow_fault::GrowFault;
 use sched_plain::Why;
 
 /// Why a worker's hold of a shard is not changed.
@@ -30,5 +31,16 @@ pub(crate) fn hold_fault(denial: Denial) -> HoldFault
         Denial::OutOfMemory => HoldFault::OutOfMemory,
         // Never of a Release.
         Denial::Rule(_) => HoldFault::Stale { epoch: 0 },
+    }
+}
+
+/// What is said where a renewal by the last taker is not kept.
+pub(crate) fn renewal_fault(fault: GrowFault) -> HoldFault
+    ensures { hold_denial result ≡ grow_denial fault }
+{
+    match fault {
+        GrowFault::Full { end, need } => HoldFault::Full { end, need },
+        GrowFault::DiskFault => HoldFault::DiskFault,
+        GrowFault::OutOfMemory => HoldFault::OutOfMemory,
     }
 }

@@ -3,3 +3,4 @@ pub mod DeviceLemmas
 mod HeadLemmas
 mod HeaderLemmas
 mod FrameLemmas
+mod PhraseLemmas

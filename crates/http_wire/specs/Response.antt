@@ -46,19 +46,10 @@ error_name status =
     else (if status == 409 then codes "ConflictException"
     else (if status == 503 then codes "OutOfMemory" else codes "InternalServerException"))))
 
--- an error's body
-unfoldable pub message_body : List ℕ → List ℕ
-message_body message = codes "{\"Message\":\"" ++ message ++ codes "\"}"
-
--- the message of a refusal: the number of the rule that is broken, and what breaks it
-unfoldable pub refusal_message : ℕ → List ℕ → List ℕ
-refusal_message rule subject = codes "rule " ++ decimal rule ++ codes ": " ++ subject
-
--- the response of a refusal, over a history with so many steps
-abbrev pub refusal_text : ℕ → ℕ → List ℕ → ℕ → List ℕ
-refusal_text status rule subject steps =
-    response_text status (Some (error_name status)) (message_body (refusal_message rule subject)) (Some steps)
+-- the response of an error with this body, and the number of steps of the history where it tells that
+abbrev pub error_text : ℕ → List ℕ → Option ℕ → List ℕ
+error_text status body history = response_text status (Some (error_name status)) body history
 
 -- the response where memory was wanted; it tells nothing of the history
 abbrev pub memory_text : List ℕ
-memory_text = response_text 503 (Some (error_name 503)) (message_body (codes "memory")) None
+memory_text = error_text 503 (codes "{\"Message\":\"memory\"}") None

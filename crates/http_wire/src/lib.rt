@@ -17,7 +17,7 @@ mod source;
 pub use digits::{MOST_DIGITS, number_within};
 pub use framing::{FrameFault, frames_one_list, read_request};
 pub use limits::{BODY_LIMIT, HEAD_LIMIT, HEADER_LIMIT, LENGTH_DIGITS};
-pub use refusal::{memory_response, write_refusal};
+pub use refusal::{memory_response, write_error};
 pub use request::HttpRequest;
 pub use response::write_response;
 pub use sink::{MemSink, RealSink, Sink, SinkFailed, send_all};

@@ -1,7 +1,6 @@
-//! The responses that a request gets without being served.
-ghost use Rattle.std.specs.Prelude.{◌≡◌, ◌++◌, codes, decimal, length, IfOk, Some};
-ghost use Rattle.http.specs.StatusCode.{IsStatusCode};
-ghost use Rattle.http_wire.specs.Response.{error_name as name_of_error, message_body, refusal_message, refusal_text, memory_text};
+//! The responses that say what went wrong.
+ghost use Rattle.std.specs.Prelude.{◌≡◌, IfOk};
+ghost use Rattle.http_wire.specs.Response.{error_name as name_of_error, error_text, memory_text};
 
 use crate::response::write_response;
 use std::alloc::{AllocError, Global};
@@ -21,46 +20,16 @@ fn error_name(status: u16) -> &'static str
     }
 }
 
-/// The body of an error, from a message that JSON writes as it stands.
-#[tactic(auto, unfolding(crate::specs::Response::message_body))]
-fn message_text(alloc: Global, message: &[u8]) -> Result<Vec<u8>, AllocError>
-    ensures { IfOk result (λ body. body.items ≡ message_body message.now) }
-{
-    let mut body = Vec::new(alloc);
-    body.extend_from_slice(b"{\"Message\":\"")?;
-    body.extend_from_slice(message)?;
-    body.extend_from_slice(b"\"}")?;
-    Ok(body)
-}
-
-/// The message of a refusal by a rule, counted from 1.
-#[tactic(auto, unfolding(crate::specs::Response::refusal_message))]
-fn refusal_line(alloc: Global, rule: u8, subject: &[u8]) -> Result<Vec<u8>, AllocError>
-    ensures { IfOk result (λ message. message.items ≡ refusal_message rule subject.now) }
-{
-    let mut message = Vec::new(alloc);
-    message.extend_from_slice(b"rule ")?;
-    message.extend_from_slice(rule.to_string(alloc)?.as_bytes())?;
-    message.extend_from_slice(b": ")?;
-    message.extend_from_slice(subject)?;
-    Ok(message)
-}
-
-/// The response of a refusal, over a history with so many steps.
-pub fn write_refusal(
+/// The response of an error with this body, and the number of steps of the history where it tells that.
+pub fn write_error(
     alloc: Global,
     status: u16,
-    rule: u8,
-    subject: &[u8],
-    steps: u64,
+    body: &[u8],
+    history: Option<u64>,
 ) -> Result<Vec<u8>, AllocError>
-    requires { IsStatusCode status }
-    ensures { IfOk result (λ text. text.items ≡ refusal_text status rule subject.now steps) }
+    ensures { IfOk result (λ text. text.items ≡ error_text status body.now history) }
 {
-    let message = refusal_line(alloc, rule, subject)?;
-    let body = message_text(alloc, &message)?;
-    let text = write_response(alloc, status, Some(error_name(status)), &body, Some(steps))?;
-    Ok(text)
+    write_response(alloc, status, Some(error_name(status)), body, history)
 }
 
 /// The response of a request for which memory was wanted. It stands ready, and takes none.

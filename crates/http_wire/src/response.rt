@@ -1,6 +1,6 @@
 //! The text of a response (RFC 9112).
 ghost use Rattle.std.specs.Prelude.{◌≡◌, ◌++◌, [], codes, decimal, length, option_copied, unwrap_or, IfOk, OnOk};
-ghost use Rattle.http.specs.StatusCode.{IsStatusCode, reason_phrase};
+ghost use Rattle.http.specs.StatusCode.{reason_phrase};
 ghost use Rattle.http_wire.specs.Response.{response_text, error_line, history_line, status_line, body_lines, line_end};
 
 use http::StatusCode;
@@ -8,7 +8,6 @@ use std::alloc::{AllocError, Global};
 
 /// The standard phrase of a status, empty where there is none.
 fn phrase(status: u16) -> &'static str
-    requires { IsStatusCode status }
     ensures { result.now ≡ unwrap_or (reason_phrase status) [] }
 {
     match StatusCode::from_u16(status) {
@@ -18,7 +17,6 @@ fn phrase(status: u16) -> &'static str
 }
 
 fn push_status(text: &mut Vec<u8>, alloc: Global, status: u16) -> Result<(), AllocError>
-    requires { IsStatusCode status }
     ensures { OnOk result (text.new.items ≡ text.old.items ++ status_line status) }
 {
     text.extend_from_slice(b"HTTP/1.1 ")?;
@@ -75,7 +73,6 @@ pub fn write_response(
     body: &[u8],
     history: Option<u64>,
 ) -> Result<Vec<u8>, AllocError>
-    requires { IsStatusCode status }
     ensures { IfOk result (λ text. text.items
         ≡ response_text status (option_copied error.entry) body.now history) }
 {

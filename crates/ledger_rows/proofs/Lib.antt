@@ -7,6 +7,12 @@ pub mod ShelfLemmas
 pub mod Entrances
 pub mod Standing
 pub mod Tallies
+pub mod Sums
+pub mod Outcomes
+pub mod LineTallies
+pub mod Tallied
+pub mod OpenSums
+pub mod Splitting
 pub mod FlightLemmas
 pub mod LastLemmas
 pub mod Wholes

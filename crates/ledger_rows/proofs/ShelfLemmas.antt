@@ -152,14 +152,14 @@ pub record Reached (lanes : List LaneRows) (shard now place : ℕ) : Type 0 wher
   pub within : place * SHARDS + shard < length lanes
   pub reached : lane_number (lane_of lanes (place * SHARDS + shard)).rows ≤ bound_at now
 
-at_place : (trees : List Numbers) (shard place : ℕ) → shard < SHARDS → place < length (shelf trees shard) → HasPlace trees (place * SHARDS + shard)
+pub at_place : (trees : List Numbers) (shard place : ℕ) → shard < SHARDS → place < length (shelf trees shard) → HasPlace trees (place * SHARDS + shard)
 at_place trees shard place lt within =
     let s : shard_of (place * SHARDS + shard) ≡ shard = omega (arith, lt) in
     let p : (place * SHARDS + shard) / SHARDS ≡ place = omega (arith, lt) in
     let l : length (shelf trees (shard_of (place * SHARDS + shard))) ≡ length (shelf trees shard) = ap (λ (k : ℕ). length (shelf trees k)) s in
     omega (arith, within, p, l)
 
-number_at_place : (trees : List Numbers) (shard place : ℕ) → shard < SHARDS → number_there trees (place * SHARDS + shard) ≡ slice_index (shelf trees shard) place
+pub number_at_place : (trees : List Numbers) (shard place : ℕ) → shard < SHARDS → number_there trees (place * SHARDS + shard) ≡ slice_index (shelf trees shard) place
 number_at_place trees shard place lt =
     let s : shard_of (place * SHARDS + shard) ≡ shard = omega (arith, lt) in
     let p : (place * SHARDS + shard) / SHARDS ≡ place = omega (arith, lt) in

@@ -1,5 +1,5 @@
 -- Entries counted one by one are those that the definitions count.
-use Rattle.std.proofs.Common.{◌≡◌, ℕ, zero, suc, ◌+◌, ◌≤◌, ◌<◌, Bool, true, false, cond, Option, Some, List, [], ◌∷◌, ◌++◌, length, take, get_or, option_map, refl, sym, ap, ap₂, ◌∙◌, arith, add-one}
+use Rattle.std.proofs.Common.{◌≡◌, ℕ, zero, suc, ◌+◌, ◌≤◌, ◌<◌, Bool, true, false, cond, Option, Some, List, [], ◌∷◌, ◌++◌, length, take, get_or, option_map, refl, sym, ap, ap₂, ◌∙◌, arith}
 use Rattle.std.specs.List.{filter, flat_map}
 use Rattle.std.specs.Option.{option_to_list}
 use Rattle.std.proofs.lemmas.List.{map-append, take_more}
@@ -18,9 +18,7 @@ use Rattle.sched_plain.specs.Ledger.{LedgerCall}
 use Rattle.sched_plain.specs.Entries.{entries, filed}
 use Rattle.sched_plain.specs.Attempts.{attempts}
 use Rattle.sched_plain.specs.Report.{all_standings, standings_of}
-use Rattle.ledger_rows.specs.declared.counts.Kind.{Kind}
-use Rattle.ledger_rows.specs.declared.counts.Kind.TheVariants as kinds
-use Rattle.ledger_rows.specs.Counting.{is_kind, IsWithin}
+use Rattle.ledger_rows.specs.Counting.{IsWithin}
 use Rattle.ledger_rows.specs.State.{Tells, no_lane, lane_standings}
 use Rattle.ledger_rows.proofs.Lookups.{found_here}
 
@@ -86,7 +84,7 @@ all_taken [] (suc i) le = refl
 all_taken (x ∷ xs) zero le = absurd (omega (arith, le))
 all_taken (x ∷ xs) (suc i) le = ap (λ l. x ∷ l) (all_taken xs i (omega (arith, le)))
 
-append_nil : {A : Type 0} (xs : List A) → xs ++ [] ≡ xs
+pub append_nil : {A : Type 0} (xs : List A) → xs ++ [] ≡ xs
 append_nil [] = refl
 append_nil (x ∷ xs) = ap (λ l. x ∷ l) (append_nil xs)
 
@@ -98,7 +96,7 @@ number_append test (x ∷ xs) ys = ap (one_more_if (test x)) (number_append test
     one_more_sum true m n = omega arith
     one_more_sum false m n = refl
 
-numbers_append : (a n m : ℕ) → numbers a (n + m) ≡ numbers a n ++ numbers (a + n) m
+pub numbers_append : (a n m : ℕ) → numbers a (n + m) ≡ numbers a n ++ numbers (a + n) m
 numbers_append a zero m =
     let e : a ≡ a + 0 = omega arith in let f : 0 + m ≡ m = omega arith in ap₂ numbers e f
 numbers_append a (suc n) m =
@@ -116,18 +114,6 @@ shorter : {A : Type 0} (h : ℕ → List A) (a n m : ℕ) → ((i : ℕ) → a +
 shorter h a n m none_behind =
     ap (flat_map h) (numbers_append a n m) ∙ flat_map-append h (numbers a n) (numbers (a + n) m)
     ∙ ap (λ l. flat_map h (numbers a n) ++ l) (empties h (a + n) m none_behind) ∙ append_nil (flat_map h (numbers a n))
-
-pub one_more_lane : (lanes : List LaneRows) (now i : ℕ) (kind : Kind)
-    → number_of (is_kind kind) (flat_map (lane_standings lanes now) (numbers 0 (i + 1)))
-    ≡ number_of (is_kind kind) (flat_map (lane_standings lanes now) (numbers 0 i)) + number_of (is_kind kind) (lane_standings lanes now i)
-one_more_lane lanes now i kind =
-    let g = lane_standings lanes now in
-    ap (λ l. number_of (is_kind kind) (flat_map g l)) (numbers_append 0 i 1)
-    ∙ ap (number_of (is_kind kind)) (flat_map-append g (numbers 0 i) (numbers (0 + i) 1) ∙ ap (λ l. flat_map g (numbers 0 i) ++ l) (alone g i))
-    ∙ number_append (is_kind kind) (flat_map g (numbers 0 i)) (g i)
-  where
-    alone : (g : ℕ → List Standing) (i : ℕ) → flat_map g (numbers (0 + i) 1) ≡ g i
-    alone g i = let e : 0 + i ≡ i = omega arith in ap (λ (k : ℕ). flat_map g (numbers k 1)) e ∙ append_nil (g i)
 
 pub all_are : (lanes : List LaneRows) (calls : List LedgerCall) (created now : ℕ) → Tells lanes (filed calls) (entries calls) (attempts calls) → IsWithin calls created
     → flat_map (lane_standings lanes now) (numbers 0 (length lanes)) ≡ all_standings calls created now
@@ -149,7 +135,3 @@ all_are lanes calls created now told within =
     ∙ ap (λ (n : ℕ). flat_map h (numbers 0 n)) (sym swapped)
     ∙ shorter h 0 (suc created) (length lanes) behind
     ∙ ap (λ l. l ++ flat_map h (numbers 1 created)) first
-
-pub number_any : (all : List Standing) → number_of (is_kind kinds.Any) all ≡ length all
-number_any [] = refl
-number_any (x ∷ all) = add-one (number_of (is_kind kinds.Any) all) ∙ ap suc (number_any all)

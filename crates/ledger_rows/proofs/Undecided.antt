@@ -30,7 +30,7 @@ cancelled_still : (row : Row) → is_some row.filed.entry.outcome ≡ true → c
 cancelled_still row e =
     ap (λ (o : Option Outcome). record row { filed = record row.filed { entry = record row.filed.entry { outcome = o } } }) (decided_still row.filed.entry.outcome e)
 
-decided_there : (rows : List Row) (from to j : ℕ) → IsLane rows → AllAbove (numbers_of rows) from to IN_AIR → from ≤ j → j < to → j < length rows
+pub decided_there : (rows : List Row) (from to j : ℕ) → IsLane rows → AllAbove (numbers_of rows) from to IN_AIR → from ≤ j → j < to → j < length rows
     → is_some (row_there rows j).filed.entry.outcome ≡ true
 decided_there rows from to j lane above le lt within =
     let n = above j le lt in

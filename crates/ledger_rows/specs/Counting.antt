@@ -1,12 +1,10 @@
 -- How many entries stand where, over the calls of a ledger alone.
-use Rattle.std.specs.Prelude.{◌≡◌, ℕ, ◌<◌, Bool, true, false, List, [], length}
+use Rattle.std.specs.Prelude.{◌≡◌, ℕ, ◌<◌, List, [], length}
 use Rattle.sched_plain.specs.declared.standing.Standing.{Standing}
 use Rattle.sched_plain.specs.Ledger.{LedgerCall}
 use Rattle.sched_plain.specs.Entries.{entries}
 use Rattle.sched_plain.specs.Report.{all_standings, number_of, is_done, is_final, is_closed_by_attempts, is_closed_by_age, is_cancelled, is_waiting, is_due, is_live, is_exhausted}
 use Rattle.ledger_rows.specs.declared.counts.EntryCounts.{EntryCounts}
-use Rattle.ledger_rows.specs.declared.counts.Kind.{Kind}
-use Rattle.ledger_rows.specs.declared.counts.Kind.TheVariants as kinds
 
 -- the entries are of incarnations from 1 up to this number
 pub record IsWithin (calls : List LedgerCall) (created : ℕ) : Type 0 where
@@ -32,25 +30,3 @@ counted all =
 -- the same of the entries of so many incarnations
 abbrev pub entry_counts : List LedgerCall → ℕ → ℕ → EntryCounts
 entry_counts calls created now = counted (all_standings calls created now)
-
--- a standing is of a kind
-abbrev pub is_kind : Kind → Standing → Bool
-is_kind kinds.Any standing = true
-is_kind kinds.Done standing = is_done standing
-is_kind kinds.Final standing = is_final standing
-is_kind kinds.Attempts standing = is_closed_by_attempts standing
-is_kind kinds.Age standing = is_closed_by_age standing
-is_kind kinds.Cancelled standing = is_cancelled standing
-is_kind kinds.Waiting standing = is_waiting standing
-is_kind kinds.Due standing = is_due standing
-is_kind kinds.Live standing = is_live standing
-is_kind kinds.Exhausted standing = is_exhausted standing
-
--- the kinds that are no outcome
-abbrev pub is_open_kind : Kind → Bool
-is_open_kind kinds.Any = true
-is_open_kind kinds.Waiting = true
-is_open_kind kinds.Due = true
-is_open_kind kinds.Live = true
-is_open_kind kinds.Exhausted = true
-is_open_kind kind = false

@@ -1,6 +1,7 @@
 pub mod Air
 pub mod Wanting
 pub mod Counting
+pub mod Tallying
 pub mod Rows
 pub mod Numbers
 pub mod Blocks

@@ -6,15 +6,16 @@ ghost use Rattle.ledger_rows.specs.Numbers.{numbers_of};
 ghost use Rattle.ledger_rows.specs.Rows.{IsLane};
 ghost use Rattle.ledger_rows.specs.Stretch.{NoneInBlock};
 
+use crate::counted_lines::CountedLines;
 use crate::wants::wants;
-use entry_lines::{EntryLines, MOST_ENTRIES};
+use entry_lines::MOST_ENTRIES;
 use min_tree::{ABOVE_ALL, MinTree};
 
 /// How many entries one number of the tree stands for.
 pub const PER_BLOCK: usize = 16;
 
 /// The number of the entry at a place.
-fn number_at(rows: &EntryLines, place: usize) -> u64
+fn number_at(rows: &CountedLines, place: usize) -> u64
     requires lane { IsLane rows.now.rows }
     requires there { place < length rows.now.rows }
     ensures value { result ≡ slice_index (numbers_of rows.now.rows) place }
@@ -24,7 +25,7 @@ fn number_at(rows: &EntryLines, place: usize) -> u64
 }
 
 /// The least number of the entries of a block.
-fn least_of(rows: &EntryLines, block: usize) -> u64
+fn least_of(rows: &CountedLines, block: usize) -> u64
     requires lane { IsLane rows.now.rows }
     requires there { block * PER_BLOCK < length rows.now.rows }
     ensures { result ≡ block_number rows.now.rows block }
@@ -39,7 +40,7 @@ fn least_of(rows: &EntryLines, block: usize) -> u64
 }
 
 /// Writes the number of the block of an entry that was changed.
-pub fn renumber(rows: &EntryLines, wants: &mut MinTree, place: usize)
+pub fn renumber(rows: &CountedLines, wants: &mut MinTree, place: usize)
     requires lane { IsLane rows.now.rows }
     requires there { place < length rows.now.rows }
     requires but { AreBlocksBut rows.now.rows wants.old.values (place / PER_BLOCK) }
@@ -52,7 +53,7 @@ pub fn renumber(rows: &EntryLines, wants: &mut MinTree, place: usize)
 }
 
 /// Writes the number of the last block, in which there may be more entries than it has the number of.
-pub fn fill_last(rows: &EntryLines, wants: &mut MinTree)
+pub fn fill_last(rows: &CountedLines, wants: &mut MinTree)
     requires lane { IsLane rows.now.rows }
     requires but { AreBlocksBefore rows.now.rows wants.old.values }
     ensures so_far { AreBlocksSoFar rows.now.rows wants.new.values }
@@ -66,7 +67,7 @@ pub fn fill_last(rows: &EntryLines, wants: &mut MinTree)
 }
 
 /// Writes the numbers of the blocks behind the ones that have theirs.
-pub fn number_more(rows: &EntryLines, wants: &mut MinTree)
+pub fn number_more(rows: &CountedLines, wants: &mut MinTree)
     requires lane { IsLane rows.now.rows }
     requires so_far { AreBlocksSoFar rows.now.rows wants.old.values }
     requires room { length rows.now.rows ≤ (length wants.old.values + wants.old.room) * PER_BLOCK }
@@ -81,7 +82,7 @@ pub fn number_more(rows: &EntryLines, wants: &mut MinTree)
 }
 
 /// The first place, at or behind one, whose number is at most a bound.
-pub fn first_from(rows: &EntryLines, wants: &MinTree, from: usize, bound: u64) -> Option<usize>
+pub fn first_from(rows: &CountedLines, wants: &MinTree, from: usize, bound: u64) -> Option<usize>
     requires lane { IsLane rows.now.rows }
     requires blocks { AreBlocks rows.now.rows wants.now.values }
     requires from { from ≤ length rows.now.rows }
@@ -97,7 +98,7 @@ pub fn first_from(rows: &EntryLines, wants: &MinTree, from: usize, bound: u64) -
 }
 
 /// The first place in the rest of a place's block whose number is at most a bound.
-fn first_in_block(rows: &EntryLines, from: usize, bound: u64) -> Option<usize>
+fn first_in_block(rows: &CountedLines, from: usize, bound: u64) -> Option<usize>
     requires lane { IsLane rows.now.rows }
     requires from { from ≤ length rows.now.rows }
     ensures some { IfSome result (IsFirstAtMost (numbers_of rows.now.rows) from bound) }
@@ -115,7 +116,7 @@ fn first_in_block(rows: &EntryLines, from: usize, bound: u64) -> Option<usize>
 }
 
 /// Where a block begins.
-fn begin_of(rows: &EntryLines, block: usize) -> usize
+fn begin_of(rows: &CountedLines, block: usize) -> usize
     requires { block * PER_BLOCK < length rows.now.rows }
     ensures { result ≡ block * PER_BLOCK }
 {
@@ -124,7 +125,7 @@ fn begin_of(rows: &EntryLines, block: usize) -> usize
 }
 
 /// The first place behind a place's block whose number is at most a bound, where none is in the rest of that block.
-fn first_behind(rows: &EntryLines, wants: &MinTree, from: usize, bound: u64) -> Option<usize>
+fn first_behind(rows: &CountedLines, wants: &MinTree, from: usize, bound: u64) -> Option<usize>
     requires lane { IsLane rows.now.rows }
     requires blocks { AreBlocks rows.now.rows wants.now.values }
     requires from { from ≤ length rows.now.rows }

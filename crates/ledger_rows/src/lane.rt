@@ -4,9 +4,9 @@ ghost use Rattle.plain_words.specs.declared.limits.TheConstants.{LAST_MOMENT};
 ghost use Rattle.sched_plain.specs.Attempts.{begun_attempt, end_attempt, lose_attempt};
 ghost use Rattle.plain_words.specs.Lists.{last, some_pass};
 ghost use Rattle.sched_plain.specs.Standing.{standing_of};
-ghost use Rattle.sched_plain.specs.Report.{is_due, number_of};
+ghost use Rattle.sched_plain.specs.Report.{is_due};
 ghost use Rattle.policy_rules.specs.LastAttempt.{last_at};
-ghost use Rattle.ledger_rows.specs.Counting.{is_kind};
+ghost use Rattle.ledger_rows.specs.Tallying.{tally_of, open_counts, AreUpTo, IsUpTo};
 ghost use Rattle.sched_plain.specs.Entries.{instants_of, with_begin, with_end, with_loss, decided_as, outcome_of};
 ghost use Rattle.ledger_rows.specs.Rows.{row_at, filed_at, attempts_at, instants_in, pairs_of, IsPlace, IsCut, IsRising, IsBehind, IsSmallFiled, IsSmallRow, IsLane, IsEntrance, IsTop, IsAbove, Changes, cancelled_row, open_in, standings_looked};
 ghost use Rattle.entry_lines.specs.Rows.{new_row};
@@ -17,21 +17,23 @@ ghost use Rattle.ledger_rows.specs.Blocks.{IsWhole, AreBlocksSoFar};
 ghost use Rattle.std.specs.List.{All};
 
 use crate::blocks::{PER_BLOCK, fill_last, first_from, number_more, renumber};
-use crate::counts::{Kind, is_kind};
+use crate::counted_lines::CountedLines;
+use crate::open_entries::{OpenCounts, no_counts, with_standing};
 use crate::question::Question;
 use crate::row;
+use crate::tally::Tally;
 use crate::wants::{IN_AIR, bound_at};
-use entry_lines::{EntryLines, MOST_ENTRIES};
+use entry_lines::MOST_ENTRIES;
 use min_tree::MinTree;
 use policy_rules::{LAST_CHOSEN, standing};
-use sched_plain::{Attempt, Filed, Moment, Pair, Policy, Reason, Verdict};
+use sched_plain::{Attempt, Filed, Moment, Pair, Policy, Reason, Standing, Verdict};
 use std::alloc::{AllocError, Global};
 use std::marker::Model;
 
 /// The entries of one incarnation, in the order of their instants, and room for more.
 #[derive(Drop)]
 pub struct Lane {
-    rows: EntryLines,
+    rows: CountedLines,
     /// The least number of each block of entries, by which what is to do is found.
     wants: MinTree,
 }
@@ -54,7 +56,7 @@ impl Lane {
         ensures room { result.room ≡ 0 }
     {
         Lane {
-            rows: EntryLines::new(alloc),
+            rows: CountedLines::new(alloc),
             wants: MinTree::new(alloc),
         }
     }
@@ -166,12 +168,21 @@ impl Lane {
         undecided_in(&self.rows, &self.wants)
     }
 
-    /// How many entries stand at a moment in this way.
-    pub fn number(&self, kind: Kind, now: Moment) -> u64
-        ensures value { result ≡ number_of (is_kind kind) (standings_looked now.0 self.now.rows) }
-        ensures few { result ≤ MOST_ENTRIES }
+    /// How many entries are decided; no moment changes that.
+    pub fn tally(&self) -> Tally
+        ensures value { result ≡ tally_of (standings_looked 0 self.now.rows) }
+        ensures few { length (pairs_of self.now.rows) ≤ MOST_ENTRIES }
+        ensures small { IsUpTo MOST_ENTRIES result }
     {
-        number_in(&self.rows, kind, now)
+        tally_in(&self.rows)
+    }
+
+    /// How the entries that are not decided stand at a moment.
+    pub fn open_counts(&self, now: Moment) -> OpenCounts
+        ensures value { result ≡ open_counts (standings_looked now.0 self.now.rows) }
+        ensures few { AreUpTo MOST_ENTRIES result }
+    {
+        open_counts_in(&self.rows, &self.wants, now)
     }
 
     /// Makes room for one more attempt.
@@ -217,7 +228,7 @@ pub fn attempts_of(lanes: &[Lane], inc: u32, instant: u64) -> &[Attempt]
     lane.attempts(instant)
 }
 
-fn filed_in(rows: &EntryLines, instant: u64) -> Option<Filed>
+fn filed_in(rows: &CountedLines, instant: u64) -> Option<Filed>
     requires { IsLane rows.now.rows }
     ensures value { result ≡ filed_at rows.now.rows instant }
     ensures small { IfSome result IsSmallFiled }
@@ -229,7 +240,7 @@ fn filed_in(rows: &EntryLines, instant: u64) -> Option<Filed>
 }
 
 /// The first place whose instant is not before this one.
-fn first_not_before(rows: &EntryLines, instant: u64) -> usize
+fn first_not_before(rows: &CountedLines, instant: u64) -> usize
     requires { IsRising rows.now.rows }
     ensures { IsCut rows.now.rows instant result }
 {
@@ -247,7 +258,7 @@ fn first_not_before(rows: &EntryLines, instant: u64) -> usize
 }
 
 /// The place of the entry at an instant.
-fn place_of(rows: &EntryLines, instant: u64) -> Option<usize>
+fn place_of(rows: &CountedLines, instant: u64) -> Option<usize>
     requires { IsRising rows.now.rows }
     ensures some { IfSome result (IsPlace rows.now.rows instant) }
     ensures none { IfNone result (row_at rows.now.rows instant ≡ None) }
@@ -262,7 +273,13 @@ fn place_of(rows: &EntryLines, instant: u64) -> Option<usize>
     Some(place)
 }
 
-fn begin_in(rows: &mut EntryLines, wants: &mut MinTree, instant: u64, epoch: u64, at: Moment) -> u16
+fn begin_in(
+    rows: &mut CountedLines,
+    wants: &mut MinTree,
+    instant: u64,
+    epoch: u64,
+    at: Moment,
+) -> u16
     requires whole { IsWhole rows.old wants.old }
     requires room { IsSome (filed_at rows.old.rows instant) → 1 ≤ rows.old.begins }
     requires due { some_pass (λ f. is_due (standing_of f at.0)) (filed_at rows.old.rows instant) ≡ true }
@@ -282,7 +299,7 @@ fn begin_in(rows: &mut EntryLines, wants: &mut MinTree, instant: u64, epoch: u64
 }
 
 fn end_in(
-    rows: &mut EntryLines,
+    rows: &mut CountedLines,
     wants: &mut MinTree,
     instant: u64,
     number: u16,
@@ -301,7 +318,7 @@ fn end_in(
     }
 }
 
-fn close_in(rows: &mut EntryLines, wants: &mut MinTree, instant: u64, reason: Reason)
+fn close_in(rows: &mut CountedLines, wants: &mut MinTree, instant: u64, reason: Reason)
     requires { IsWhole rows.old wants.old }
     ensures whole { IsWhole rows.new wants.new }
     ensures changes { Changes rows.old.rows rows.new.rows instant (decided_as (outcome_of reason)) (λ before. before) }
@@ -312,7 +329,7 @@ fn close_in(rows: &mut EntryLines, wants: &mut MinTree, instant: u64, reason: Re
     }
 }
 
-fn lose_in(rows: &mut EntryLines, wants: &mut MinTree, instant: u64, at: Moment)
+fn lose_in(rows: &mut CountedLines, wants: &mut MinTree, instant: u64, at: Moment)
     requires whole { IsWhole rows.old wants.old }
     requires at { at.0 ≤ LAST_MOMENT }
     ensures whole { IsWhole rows.new wants.new }
@@ -324,7 +341,7 @@ fn lose_in(rows: &mut EntryLines, wants: &mut MinTree, instant: u64, at: Moment)
     }
 }
 
-fn cancel_in(rows: &mut EntryLines, wants: &mut MinTree)
+fn cancel_in(rows: &mut CountedLines, wants: &mut MinTree)
     requires { IsWhole rows.old wants.old }
     ensures whole { IsWhole rows.new wants.new }
     ensures rows { rows.new ≡ record rows.old { rows = map cancelled_row rows.old.rows } }
@@ -337,7 +354,7 @@ fn cancel_in(rows: &mut EntryLines, wants: &mut MinTree)
     }
 }
 
-fn enter_in(rows: &mut EntryLines, wants: &mut MinTree, policy: Policy, pairs: &[Pair])
+fn enter_in(rows: &mut CountedLines, wants: &mut MinTree, policy: Policy, pairs: &[Pair])
     requires whole { IsWhole rows.old wants.old }
     requires room { length pairs.now ≤ rows.old.room }
     requires entrance { IsEntrance (pairs_of rows.old.rows) pairs.now }
@@ -350,7 +367,7 @@ fn enter_in(rows: &mut EntryLines, wants: &mut MinTree, policy: Policy, pairs: &
 }
 
 /// The first entry, by its instant, whose chosen moment has come and that is exhausted or due.
-fn first_due_in(rows: &EntryLines, wants: &MinTree, now: u64) -> Option<u64>
+fn first_due_in(rows: &CountedLines, wants: &MinTree, now: u64) -> Option<u64>
     requires { IsWhole rows.now wants.now }
     ensures first { IsFirstIn (λ k. answers (Question.ToAct now) (filed_at rows.now.rows k)) result }
     ensures none { IfNone result (bound_at now < lane_number rows.now.rows) }
@@ -361,7 +378,7 @@ fn first_due_in(rows: &EntryLines, wants: &MinTree, now: u64) -> Option<u64>
     }
 }
 
-fn final_instant(rows: &EntryLines) -> Option<u64>
+fn final_instant(rows: &CountedLines) -> Option<u64>
     ensures { result ≡ last (instants_of (pairs_of rows.now.rows)) }
 {
     match rows.len() {
@@ -370,7 +387,7 @@ fn final_instant(rows: &EntryLines) -> Option<u64>
     }
 }
 
-fn undecided_in(rows: &EntryLines, wants: &MinTree) -> u64
+fn undecided_in(rows: &CountedLines, wants: &MinTree) -> u64
     requires { IsWhole rows.now wants.now }
     ensures { result ≡ open_in rows.now.rows }
 {
@@ -383,29 +400,40 @@ fn undecided_in(rows: &EntryLines, wants: &MinTree) -> u64
     count
 }
 
-fn number_in(rows: &EntryLines, kind: Kind, now: Moment) -> u64
+fn tally_in(rows: &CountedLines) -> Tally
     requires { IsLane rows.now.rows }
-    ensures value { result ≡ number_of (is_kind kind) (standings_looked now.0 rows.now.rows) }
-    ensures few { result ≤ MOST_ENTRIES }
+    ensures value { result ≡ tally_of (standings_looked 0 rows.now.rows) }
+    ensures few { length (pairs_of rows.now.rows) ≤ MOST_ENTRIES }
+    ensures small { IsUpTo MOST_ENTRIES result }
 {
-    let mut count = 0;
-    for place in 0..rows.len() {
-        if stands_so(kind, &rows.filed(place), now) {
-            count += 1;
-        }
-    }
-    count
+    let _few = rows.len();
+    rows.tally()
 }
 
-fn stands_so(kind: Kind, filed: &Filed, now: Moment) -> bool
-    requires { IsSmallFiled filed.now }
-    ensures { result ≡ is_kind kind (standing_of filed.now now.0) }
+fn open_counts_in(rows: &CountedLines, wants: &MinTree, now: Moment) -> OpenCounts
+    requires { IsWhole rows.now wants.now }
+    ensures value { result ≡ open_counts (standings_looked now.0 rows.now.rows) }
+    ensures few { AreUpTo MOST_ENTRIES result }
 {
-    is_kind(kind, standing(&filed.entry, filed.policy, now))
+    let _few = rows.len();
+    let mut counts = no_counts();
+    let mut from = 0;
+    while let Some(place) = first_from(rows, wants, from, IN_AIR) {
+        counts = with_standing(counts, stands(&rows.filed(place), now));
+        from = place + 1;
+    }
+    counts
+}
+
+fn stands(filed: &Filed, now: Moment) -> Standing
+    requires { IsSmallFiled filed.now }
+    ensures { result ≡ standing_of filed.now now.0 }
+{
+    standing(&filed.entry, filed.policy, now)
 }
 
 /// Whether these pairs may be entered behind entries.
-fn may_follow(rows: &EntryLines, pairs: &[Pair]) -> bool
+fn may_follow(rows: &CountedLines, pairs: &[Pair]) -> bool
     requires { IsRising rows.now.rows }
     ensures says { result ≡ true → IsEntrance (pairs_of rows.now.rows) pairs.now }
     ensures all { IsEntrance (pairs_of rows.now.rows) pairs.now → result ≡ true }
@@ -420,7 +448,7 @@ fn may_follow(rows: &EntryLines, pairs: &[Pair]) -> bool
     true
 }
 
-fn last_instant(rows: &EntryLines) -> Option<u64>
+fn last_instant(rows: &CountedLines) -> Option<u64>
     requires { IsRising rows.now.rows }
     ensures top { IsTop (instants_in rows.now.rows) result }
     ensures next { (p : ℕ) → IsBehind rows.now.rows p → IsAbove result p }

@@ -14,17 +14,21 @@ ghost use Rattle.ledger_rows.specs.Numbers.{bound_at, lane_number};
 ghost use Rattle.ledger_rows.specs.Wanting.{answers, IsFirstIn, IsFirstOf};
 ghost use Rattle.sched_plain.specs.Standing.{standing_of};
 ghost use Rattle.sched_plain.specs.declared.entry.Filed.{Filed as TheFiled};
-ghost use Rattle.sched_plain.specs.Report.{is_due, number_of};
+ghost use Rattle.sched_plain.specs.Report.{is_due};
 ghost use Rattle.std.specs.List.{flat_map};
-ghost use Rattle.ledger_rows.specs.Counting.{is_kind, IsWithin, entry_counts, counted};
+ghost use Rattle.ledger_rows.specs.Counting.{IsWithin, entry_counts, counted};
+ghost use Rattle.ledger_rows.specs.Tallying.{AreTallied, AreUpTo, AreFew, IsUpTo, all_in, in_shard, open_counts, tally_of};
 
-use crate::counts::{EntryCounts, Kind};
+use crate::counts::EntryCounts;
 use crate::lane::{Lane, attempts_of, filed_of};
+use crate::open_entries::{OpenCounts, counts_by, no_counts, together};
 use crate::question::Question;
 use crate::row::Flight;
-use crate::shelves::{first_place, note, plant, put_place, reserve_place};
+use crate::shelves::{first_place, note, place_from, plant, put_place, reserve_place};
+use crate::tally::{Tally, none, replace};
 use crate::waiting::first_live_of;
-use crate::wants::bound_at;
+use crate::wants::{IN_AIR, bound_at};
+use entry_lines::MOST_ENTRIES;
 use min_tree::MinTree;
 use policy_rules::standing;
 use sched_plain::{
@@ -43,18 +47,21 @@ pub struct Ledger {
     shelves: Vec<MinTree>,
     /// The attempts in the air, in the order of their begins.
     flights: Vec<Flight>,
+    /// How many of all entries are decided.
+    tally: Tally,
 }
 
 impl Model for Ledger {
     ghost use Rattle.std.specs.Prelude.{◌-◌, ◌≤◌, length, vec_len, vec_capacity};
     ghost use Rattle.ledger_rows.specs.State.{State, AreFlown, AreLast};
     ghost use Rattle.ledger_rows.specs.Shelves.{AreShelved};
+    ghost use Rattle.ledger_rows.specs.Tallying.{AreTallied};
 
     ghost Value = { State };
 
     ghost view = { λ l. record { lanes = l.lanes.items; flights = l.flights.items; room = vec_capacity l.flights - vec_len l.flights } };
 
-    ghost invariant = { λ l. (length l.lanes.items ≤ 4294967296) × AreShelved l.lanes.items l.shelves.items × AreFlown l.lanes.items l.flights.items × AreLast l.lanes.items };
+    ghost invariant = { λ l. (length l.lanes.items ≤ 4294967296) × AreShelved l.lanes.items l.shelves.items × AreFlown l.lanes.items l.flights.items × AreLast l.lanes.items × AreTallied l.lanes.items l.tally };
 }
 
 impl Ledger {
@@ -68,6 +75,7 @@ impl Ledger {
             lanes: Vec::new(alloc),
             shelves: Vec::new(alloc),
             flights: Vec::new(alloc),
+            tally: none(),
         }
     }
 
@@ -87,8 +95,10 @@ impl Ledger {
         ensures stands { (calls : List LedgerCall) → Stands self.old calls → Stands self.new (Entered inc policy pairs.now ∷ calls) }
         ensures flights { self.new.flights ≡ self.old.flights }
     {
+        let before = tally_in(&self.lanes, inc);
         let shelves = &mut self.shelves;
         enter_in(&mut self.lanes, shelves, inc, policy, pairs.as_slice());
+        replace(&mut self.tally, before, tally_in(&self.lanes, inc));
     }
 
     /// Makes room for one more attempt of an occurrence, and for its end. Where memory is wanted, or the occurrence has no
@@ -140,6 +150,7 @@ impl Ledger {
         ensures stands { (calls : List LedgerCall) → Stands self.old calls → Stands self.new (Finished inc instant number verdict status at.0 ∷ calls) }
         ensures flights { self.new.flights ≡ but_for inc instant self.old.flights }
     {
+        let before = tally_in(&self.lanes, inc);
         let shelves = &mut self.shelves;
         end_in(
             &mut self.lanes,
@@ -151,6 +162,7 @@ impl Ledger {
             status,
             at,
         );
+        replace(&mut self.tally, before, tally_in(&self.lanes, inc));
         land(&mut self.flights, inc, instant);
     }
 
@@ -160,7 +172,9 @@ impl Ledger {
         ensures stands { (calls : List LedgerCall) → Stands self.old calls → Stands self.new (Closed inc instant reason ∷ calls) }
         ensures flights { self.new.flights ≡ self.old.flights }
     {
+        let before = tally_in(&self.lanes, inc);
         close_in(&mut self.lanes, &mut self.shelves, inc, instant, reason);
+        replace(&mut self.tally, before, tally_in(&self.lanes, inc));
     }
 
     /// The entries of an incarnation that are not decided are cancelled; an attempt in the air stays there.
@@ -168,7 +182,9 @@ impl Ledger {
         ensures stands { (calls : List LedgerCall) → Stands self.old calls → Stands self.new (Cancelled inc ∷ calls) }
         ensures flights { self.new.flights ≡ self.old.flights }
     {
+        let before = tally_in(&self.lanes, inc);
         cancel_in(&mut self.lanes, &mut self.shelves, inc);
+        replace(&mut self.tally, before, tally_in(&self.lanes, inc));
     }
 
     /// The attempts in the air are lost at a moment: those of a shard, or all where none is named.
@@ -298,26 +314,63 @@ impl Ledger {
     pub fn counts(&self, now: Moment) -> EntryCounts
         ensures { (calls : List LedgerCall) (created : ℕ) → Stands self.now calls → IsWithin calls created → result ≡ entry_counts calls created now.0 }
     {
-        counts_of(&self.lanes, now)
+        counts_of(&self.lanes, &self.shelves, self.tally, now)
     }
 }
 
-fn counts_of(lanes: &[Lane], now: Moment) -> EntryCounts
-    requires { length lanes.now ≤ 4294967296 }
+/// The numbers of all entries: the tally of the decided ones, and the others, which are looked up.
+fn counts_of(lanes: &[Lane], shelves: &[MinTree], tally: Tally, now: Moment) -> EntryCounts
+    requires few { length lanes.now ≤ 4294967296 }
+    requires shelved { AreShelved lanes.now shelves.now }
+    requires tallied { AreTallied lanes.now tally }
     ensures { result ≡ counted (flat_map (lane_standings lanes.now now.0) (numbers 0 (length lanes.now))) }
 {
-    EntryCounts {
-        entries: number_of(lanes, Kind::Any, now),
-        done: number_of(lanes, Kind::Done, now),
-        finals: number_of(lanes, Kind::Final, now),
-        attempts: number_of(lanes, Kind::Attempts, now),
-        age: number_of(lanes, Kind::Age, now),
-        cancelled: number_of(lanes, Kind::Cancelled, now),
-        waiting: number_of(lanes, Kind::Waiting, now),
-        due: number_of(lanes, Kind::Due, now),
-        live: number_of(lanes, Kind::Live, now),
-        exhausted: number_of(lanes, Kind::Exhausted, now),
+    counts_by(tally, open_counts_of(lanes, shelves, now))
+}
+
+/// How the entries that are not decided stand at a moment.
+fn open_counts_of(lanes: &[Lane], shelves: &[MinTree], now: Moment) -> OpenCounts
+    requires few { length lanes.now ≤ 4294967296 }
+    requires shelved { AreShelved lanes.now shelves.now }
+    requires entries { AreFew lanes.now }
+    ensures { result ≡ open_counts (all_in lanes.now now.0) }
+{
+    let mut counts = no_counts();
+    for shard in 0..SHARDS {
+        counts = together(counts, open_counts_in(lanes, shelves, shard, now));
     }
+    counts
+}
+
+/// The same of the entries of a shard: of the incarnations that have one that is not decided.
+fn open_counts_in(lanes: &[Lane], shelves: &[MinTree], shard: u8, now: Moment) -> OpenCounts
+    requires few { length lanes.now ≤ 4294967296 }
+    requires shelved { AreShelved lanes.now shelves.now }
+    requires entries { AreFew lanes.now }
+    requires shard { shard < SHARDS }
+    ensures { result ≡ open_counts (in_shard lanes.now shard now.0) }
+{
+    let mut counts = no_counts();
+    let mut from = 0;
+    while let Some(place) = place_from(shelves, shard, from, IN_AIR) {
+        let lane = &lanes[place * SHARDS as usize + shard as usize];
+        counts = together(counts, lane.open_counts(now));
+        from = place + 1;
+    }
+    counts
+}
+
+/// How many entries of an incarnation are decided.
+fn tally_in(lanes: &[Lane], inc: u32) -> Tally
+    ensures value { result ≡ tally_of (lane_standings lanes.now 0 inc) }
+    ensures few { length (pairs_in lanes.now inc) ≤ MOST_ENTRIES }
+    ensures small { IsUpTo MOST_ENTRIES result }
+{
+    if inc as usize >= lanes.len() {
+        return none();
+    }
+    let lane = &lanes[inc as usize];
+    lane.tally()
 }
 
 fn last_of(lanes: &[Lane], inc: u32) -> Option<u64>
@@ -338,19 +391,6 @@ fn open_of(lanes: &[Lane], inc: u32) -> u64
     }
     let lane = &lanes[inc as usize];
     lane.undecided()
-}
-
-/// How many entries stand at a moment in this way.
-fn number_of(lanes: &[Lane], kind: Kind, now: Moment) -> u64
-    requires { length lanes.now ≤ 4294967296 }
-    ensures { result ≡ number_of (is_kind kind) (flat_map (lane_standings lanes.now now.0) (numbers 0 (length lanes.now))) }
-{
-    let mut count = 0;
-    for place in 0..lanes.len() {
-        let lane = &lanes[place];
-        count += lane.number(kind, now);
-    }
-    count
 }
 
 fn reserve_in(

@@ -6,12 +6,15 @@
 #![tactic(auto)]
 
 mod blocks;
+mod counted_lines;
 mod counts;
 mod lane;
 mod ledger;
+mod open_entries;
 mod question;
 mod row;
 mod shelves;
+mod tally;
 mod waiting;
 mod wants;
 

@@ -5,7 +5,7 @@ ghost use Rattle.sched_plain.specs.Entries.{with_end, with_loss, decided_as, out
 ghost use Rattle.entry_lines.specs.Rows.{changed, row_there};
 ghost use Rattle.ledger_rows.specs.Rows.{cancelled_row};
 
-use entry_lines::EntryLines;
+use crate::counted_lines::CountedLines;
 use sched_plain::{Entry, Last, Moment, Outcome, Reason, Verdict};
 
 /// An attempt in the air: begun, and neither ended nor lost.
@@ -65,7 +65,7 @@ fn outcome_of(reason: Reason) -> Outcome
 
 /// The attempt of this number of the entry at a place ends.
 pub fn end(
-    rows: &mut EntryLines,
+    rows: &mut CountedLines,
     place: usize,
     number: u16,
     verdict: Verdict,
@@ -87,7 +87,7 @@ pub fn end(
 }
 
 /// The attempt of the entry at a place is lost, where it is live.
-pub fn lose(rows: &mut EntryLines, place: usize, at: Moment)
+pub fn lose(rows: &mut CountedLines, place: usize, at: Moment)
     requires { place < length rows.old.rows }
     ensures rows { rows.new.rows ≡ slice_set rows.old.rows place (changed (with_loss at.0) (map lose_attempt) (row_there rows.old.rows place)) }
     ensures room { rows.new.room ≡ rows.old.room }
@@ -97,7 +97,7 @@ pub fn lose(rows: &mut EntryLines, place: usize, at: Moment)
 }
 
 /// The entry at a place is decided, where it is not yet.
-fn decide(rows: &mut EntryLines, place: usize, outcome: Outcome)
+fn decide(rows: &mut CountedLines, place: usize, outcome: Outcome)
     requires { place < length rows.old.rows }
     ensures rows { rows.new.rows ≡ slice_set rows.old.rows place (changed (decided_as outcome) (λ before. before) (row_there rows.old.rows place)) }
     ensures room { rows.new.room ≡ rows.old.room }
@@ -108,7 +108,7 @@ fn decide(rows: &mut EntryLines, place: usize, outcome: Outcome)
 }
 
 /// The entry at a place is closed.
-pub fn close(rows: &mut EntryLines, place: usize, reason: Reason)
+pub fn close(rows: &mut CountedLines, place: usize, reason: Reason)
     requires { place < length rows.old.rows }
     ensures rows { rows.new.rows ≡ slice_set rows.old.rows place (changed (decided_as (outcome_of reason)) (λ before. before) (row_there rows.old.rows place)) }
     ensures room { rows.new.room ≡ rows.old.room }
@@ -117,7 +117,7 @@ pub fn close(rows: &mut EntryLines, place: usize, reason: Reason)
 }
 
 /// The entry at a place is cancelled.
-pub fn cancel(rows: &mut EntryLines, place: usize)
+pub fn cancel(rows: &mut CountedLines, place: usize)
     requires { place < length rows.old.rows }
     ensures rows { rows.new.rows ≡ slice_set rows.old.rows place (cancelled_row (row_there rows.old.rows place)) }
     ensures room { rows.new.room ≡ rows.old.room }

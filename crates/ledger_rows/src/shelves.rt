@@ -54,9 +54,17 @@ pub fn first_place(trees: &[MinTree], shard: u8, bound: u64) -> Option<usize>
     ensures some { IfSome result (IsFirstAtMost (shelf trees.now shard) 0 bound) }
     ensures none { IfNone result (AllAbove (shelf trees.now shard) 0 (length (shelf trees.now shard)) bound) }
 {
+    place_from(trees, shard, 0, bound)
+}
+
+/// The first place of a shard, at or behind one, whose number is at most a bound.
+pub fn place_from(trees: &[MinTree], shard: u8, from: usize, bound: u64) -> Option<usize>
+    ensures some { IfSome result (IsFirstAtMost (shelf trees.now shard) from bound) }
+    ensures none { IfNone result (AllAbove (shelf trees.now shard) from (length (shelf trees.now shard)) bound) }
+{
     if shard as usize >= trees.len() {
         return None;
     }
     let tree = &trees[shard as usize];
-    tree.first_at_most(0, bound)
+    tree.first_at_most(from, bound)
 }

@@ -6,6 +6,8 @@ mod kit;
 #[cfg(test)]
 mod late;
 #[cfg(test)]
+mod numbers;
+#[cfg(test)]
 mod reads;
 #[cfg(test)]
 mod runs;

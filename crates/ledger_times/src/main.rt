@@ -1,7 +1,9 @@
 //! Makes a ledger of decided entries, and asks it over and over, for bench/ to time.
 //! `ledger_times WORK DECIDED ROUNDS [timed]`: WORK is `due`, where the first due entry is asked for beside one that is
-//! due, or `end` or `lose`, where in each round an entry is entered, begun and ended, or its attempt lost. It prints a sum
-//! of what was answered, or with `timed` the nanoseconds of the questions, the ends or the losses.
+//! due, or `end` or `lose`, where in each round an entry is entered, begun and ended, or its attempt lost, or `counts`,
+//! where the numbers of all entries are asked for beside a thousand that are not decided. `undecided` asks for these
+//! with so many that are not decided, each of an incarnation of its own. It prints a sum of what was answered, or with `timed` the
+//! nanoseconds of the questions, the ends or the losses.
 #![tactic(auto)]
 
 mod lives;
@@ -13,7 +15,7 @@ use sched_plain::Moment;
 use std::env;
 use std::time::Instant;
 
-const USAGE: &str = "usage: ledger_times due|end|lose DECIDED ROUNDS [timed]";
+const USAGE: &str = "usage: ledger_times due|end|lose|counts|undecided ENTRIES ROUNDS [timed]";
 
 /// The incarnation whose entries they are.
 const INC: u32 = 1;
@@ -73,12 +75,48 @@ fn lose(rt: &HostRuntime, count: u64, rounds: u64) -> anyhow::Result<(u64, u128)
     Ok((rounds, spent))
 }
 
+/// Adds so many incarnations, each with one entry that is not decided.
+fn waiting(rt: &HostRuntime, ledger: &mut Ledger, count: u64) -> anyhow::Result<()> {
+    for k in 0..count {
+        let inc = (k % 1_000_000_000) as u32 + INC + 1;
+        entered(rt.alloc(), ledger, inc, k)?;
+    }
+    Ok(())
+}
+
+/// Asks for the numbers of all entries: a sum of the answers, and the nanoseconds.
+fn ask_counts(rt: &HostRuntime, ledger: &Ledger, rounds: u64) -> anyhow::Result<(u64, u128)> {
+    let mut sum: u64 = 0;
+    let start = Instant::now(rt)?;
+    for round in 0..rounds {
+        let counts = ledger.counts(Moment(round));
+        sum = sum.wrapping_add(counts.entries).wrapping_add(counts.due);
+    }
+    Ok((sum, start.elapsed(rt)?.as_nanos()))
+}
+
+/// Asks for the numbers beside so many decided entries, and a thousand that are not.
+fn counts(rt: &HostRuntime, decided_ones: u64, rounds: u64) -> anyhow::Result<(u64, u128)> {
+    let mut ledger = decided(rt, decided_ones)?;
+    waiting(rt, &mut ledger, 1000)?;
+    ask_counts(rt, &ledger, rounds)
+}
+
+/// Asks for the numbers with so many entries that are not decided, and no others.
+fn undecided(rt: &HostRuntime, others: u64, rounds: u64) -> anyhow::Result<(u64, u128)> {
+    let mut ledger = Ledger::new(rt.alloc());
+    waiting(rt, &mut ledger, others)?;
+    ask_counts(rt, &ledger, rounds)
+}
+
 /// Does what the words after the program's name say.
 fn run(rt: &HostRuntime, work: &str, count: u64, rounds: u64) -> anyhow::Result<(u64, u128)> {
     match work {
         "due" => ask(rt, count, rounds),
         "end" => end(rt, count, rounds),
         "lose" => lose(rt, count, rounds),
+        "counts" => counts(rt, count, rounds),
+        "undecided" => undecided(rt, count, rounds),
         _ => bail!("{USAGE}"),
     }
 }

@@ -1,5 +1,5 @@
 -- The text of an id is text.
-use Rattle.std.proofs.Common.{◌≡◌, ℕ, true, ◌&&◌, nat_lt, List, [], ◌∷◌, refl}
+use Rattle.std.proofs.Common.{◌≡◌, ℕ, true, nat_lt, List, [], ◌∷◌, refl}
 use Rattle.std.specs.Int.{w32, w64, to_be_bytes}
 use Rattle.std.specs.List.{list_all}
 use Rattle.std.specs.Str.{IsAscii, IsUtf8}

@@ -1,5 +1,5 @@
 -- The bodies of answers: JSON (RFC 8259) without spaces, the members of each object in the order of their bytes.
-use Rattle.std.specs.Prelude.{ℕ, List, [], ◌∷◌, ◌++◌, codes}
+use Rattle.std.specs.Prelude.{ℕ, List, [], ◌∷◌, codes}
 use Rattle.json.specs.Token.{Token}
 use Rattle.json.specs.Print.{print}
 use Rattle.sched_plain.specs.declared.write.Write.{Write}

@@ -1,5 +1,5 @@
 -- What the definitions say of replies that are written out.
-use Rattle.std.specs.Prelude.{◌≡◌, ℕ, true, false, Some, None, List, [], ◌∷◌, codes}
+use Rattle.std.specs.Prelude.{◌≡◌, true, false, Some, List, [], ◌∷◌, codes}
 use Rattle.plain_words.specs.Moments.{moment_of}
 use Rattle.plain_words.specs.declared.verdict.Verdict.TheVariants as verdicts
 use Rattle.sched_plain.specs.declared.entry.Attempt.{Attempt}
@@ -7,7 +7,6 @@ use Rattle.sched_plain.specs.declared.entry.Entry.{Entry}
 use Rattle.sched_plain.specs.declared.entry.Fate.TheVariants as fates
 use Rattle.sched_plain.specs.declared.entry.Last.TheVariants as lasts
 use Rattle.sched_plain.specs.declared.outcome.Outcome.TheVariants as outcomes
-use Rattle.sched_plain.specs.declared.row.GroupRow.{GroupRow}
 use Rattle.sched_plain.specs.declared.schedule.Schedule.{Schedule}
 use Rattle.sched_plain.specs.Examples.{once}
 use Rattle.sched_calls.specs.declared.page.GroupPage.{GroupPage}

@@ -1,5 +1,5 @@
 -- Occurrences with their attempts, and dead letters, as bodies show them.
-use Rattle.std.specs.Prelude.{ℕ, List, [], ◌∷◌, ◌++◌, codes}
+use Rattle.std.specs.Prelude.{ℕ, List, [], ◌∷◌, codes}
 use Rattle.std.specs.List.{flat_map}
 use Rattle.json.specs.Token.{Token}
 use Rattle.plain_words.specs.Ids.{id_text}

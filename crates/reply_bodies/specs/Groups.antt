@@ -1,5 +1,5 @@
 -- Groups of schedules as bodies show them: one, and a page of many.
-use Rattle.std.specs.Prelude.{ℕ, ◌-◌, if◌then◌else◌, Option, None, List, [], ◌∷◌, ◌++◌, length, codes, slice_get, option_map}
+use Rattle.std.specs.Prelude.{ℕ, ◌-◌, if◌then◌else◌, Option, None, List, [], ◌∷◌, length, codes, slice_get, option_map}
 use Rattle.std.specs.List.{flat_map}
 use Rattle.json.specs.Token.{Token}
 use Rattle.sched_plain.specs.declared.row.GroupRow.{GroupRow}

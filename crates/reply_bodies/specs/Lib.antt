@@ -5,3 +5,4 @@ pub mod Groups
 pub mod Executions
 pub mod Bodies
 pub mod BodyRows
+pub mod Messages

@@ -51,12 +51,14 @@ impl Body {
         writer.into_inner()
     }
 
+    /// Begins an object that is no member: the whole body, or one of a list.
     pub fn begin_object(&mut self) -> Result<(), AllocError>
         ensures { OnOk result (self.new ≡ self.old ++ begin_object ∷ []) }
     {
         self.writer.begin_object()
     }
 
+    /// Ends the object that was begun last.
     pub fn end_object(&mut self) -> Result<(), AllocError>
         ensures { OnOk result (self.new ≡ self.old ++ end_object ∷ []) }
     {
@@ -71,6 +73,7 @@ impl Body {
         self.writer.begin_array()
     }
 
+    /// Ends the list that was begun last.
     pub fn end_list(&mut self) -> Result<(), AllocError>
         ensures { OnOk result (self.new ≡ self.old ++ end_array ∷ []) }
     {

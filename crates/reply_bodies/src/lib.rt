@@ -10,10 +10,12 @@ mod examples;
 mod execution;
 mod groups;
 mod letters;
+mod messages;
 mod replies;
 mod schedule;
 mod schedules;
 mod words;
 
 pub use examples::bodies_on_examples;
+pub use messages::{encode_message, encode_refusal};
 pub use replies::encode;

@@ -4,6 +4,8 @@
 #[cfg(test)]
 mod executions;
 #[cfg(test)]
+mod messages;
+#[cfg(test)]
 mod pages;
 #[cfg(test)]
 mod samples;

@@ -1,5 +1,5 @@
 -- An id shows the incarnation and the instant that are read from it.
-use Rattle.std.proofs.Common.{nat_lt, ◌≡◌, ℕ, zero, suc, ◌/◌, ◌%◌, ◌^◌, ◌<◌, ◌==◌, Bool, true, false, ◌&&◌, if◌then◌else◌, List, [], ◌∷◌, ◌++◌, length, take, drop, slice_index, Option, Some, None, refl, sym, ap, ◌∙◌, arith, inl, inr, subst}
+use Rattle.std.proofs.Common.{◌≡◌, ℕ, zero, suc, ◌/◌, ◌%◌, ◌^◌, ◌<◌, ◌==◌, Bool, true, false, ◌&&◌, if◌then◌else◌, List, [], ◌∷◌, length, take, drop, slice_index, Some, None, refl, ap, ◌∙◌, arith, inl, inr}
 use Rattle.std.specs.List.{list_all}
 use Rattle.std.specs.Int.{w32, w64, to_be_bytes, from_be_bytes, bytes_high_first}
 use Rattle.std.proofs.lemmas.Bool.{and_parts, cases_lt}

@@ -1,18 +1,16 @@
 -- The call that a request asks for, or the first rule that it breaks: first a route, then the query, then the body and its
 -- members, then the fields in the order in which they stand here.
-use Rattle.std.specs.Prelude.{⊤, ℕ, nat_le, Bool, true, false, ◌&&◌, if◌then◌else◌, Option, Some, None, Result, Ok, Err, List, [], take, codes}
-use Rattle.std.specs.Option.{option_map, option_and_then}
+use Rattle.std.specs.Prelude.{ℕ, nat_le, Bool, ◌&&◌, Option, Some, Result, Ok, List, [], take, codes}
+use Rattle.std.specs.Option.{option_and_then}
 use Rattle.std.specs.Str.Lossy.{utf8_lossy}
 use Rattle.serde_json.specs.Data.{Data}
 use Rattle.plain_words.specs.Bytes.{slash}
 use Rattle.plain_words.specs.declared.limits.TheConstants.{LONGEST_ARN}
 use Rattle.expressions.specs.CronItems.{both}
-use Rattle.sched_plain.specs.declared.write.Write.{Write}
 use Rattle.sched_plain.specs.declared.write.Write.TheVariants as writes
 use Rattle.sched_plain.specs.Groups.{default_name}
 use Rattle.sched_calls.specs.declared.call.Call.{Call}
 use Rattle.sched_calls.specs.declared.call.Call.TheVariants as calls
-use Rattle.sched_calls.specs.declared.read.Read.{Read}
 use Rattle.sched_calls.specs.declared.read.Read.TheVariants as reads
 use Rattle.sched_calls.specs.declared.reply.Refusal.{Refusal}
 use Rattle.sched_calls.specs.Replies.{refusal}

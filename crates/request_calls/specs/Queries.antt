@@ -1,5 +1,5 @@
 -- The query of a request target, as a web form (WHATWG URL Standard): the names that a route knows, each at most once.
-use Rattle.std.specs.Prelude.{ℕ, Bool, is_some, if◌then◌else◌, Option, Some, None, Result, Ok, Err, List, [], ◌∷◌, ◌++◌}
+use Rattle.std.specs.Prelude.{ℕ, Bool, is_some, if◌then◌else◌, Option, Result, Ok, Err, List, [], ◌∷◌, ◌++◌}
 use Rattle.std.specs.List.{find}
 use Rattle.std.specs.Option.{option_map}
 use Rattle.std.specs.Str.{bytes_eq}

@@ -4,7 +4,7 @@ ghost use Rattle.request_fields.specs.Refusals.{Reads};
 ghost use Rattle.request_calls.specs.Moments.{moment_of as moment_by, stated_by as stated_by_headers};
 
 use http_wire::{HttpRequest, number_within};
-use request_fields::{DecodeFault, refused};
+use request_fields::{BAD_REQUEST, DecodeFault, refused};
 use sched_plain::{Blob, LAST_MOMENT};
 use std::alloc::Global;
 
@@ -22,7 +22,7 @@ pub fn moment_of(alloc: Global, request: &HttpRequest) -> Result<Option<u64>, De
     match stated_by(request.moments.as_slice()) {
         Some(stated) => Ok(stated),
         None => {
-            let refusal = refused(alloc, MOMENT_RULE, 400, "", "X-Moment")?;
+            let refusal = refused(alloc, MOMENT_RULE, BAD_REQUEST, "", "X-Moment")?;
             Err(DecodeFault::Refused(refusal))
         }
     }

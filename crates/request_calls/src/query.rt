@@ -4,7 +4,7 @@ ghost use Rattle.request_fields.specs.Refusals.{Reads};
 ghost use Rattle.request_calls.specs.Queries as spec;
 
 use crate::route::{Route, is_known};
-use request_fields::{DecodeFault, refused};
+use request_fields::{BAD_REQUEST, DecodeFault, refused};
 use sched_plain::{Items, Text};
 use std::alloc::{AllocError, Global};
 
@@ -59,7 +59,7 @@ fn with_pair(
         return Ok(found);
     }
     if value_of(name, found.as_slice()).is_some() {
-        let refusal = refused(alloc, QUERY_RULE, 400, "", name)?;
+        let refusal = refused(alloc, QUERY_RULE, BAD_REQUEST, "", name)?;
         return Err(DecodeFault::Refused(refusal));
     }
     let found = added(alloc, found, name, value)?;

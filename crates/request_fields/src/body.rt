@@ -6,14 +6,12 @@ ghost use Rattle.request_fields.specs.Bodies.{object_in, object_of, value_of};
 ghost use Rattle.request_fields.specs.Objects.{ReadsOwned};
 ghost use Rattle.request_fields.specs.Rows.{an_object};
 
-use crate::fault::{DecodeFault, refused};
+use crate::fault::{BAD_REQUEST, DecodeFault, refused};
 use serde_json::{Map, Value};
 use std::alloc::{AllocError, Global};
 
 /// The number of the rule that a body is a JSON object.
 const BODY_RULE: u8 = 5;
-/// The status of a request that is not valid.
-const BAD_REQUEST: u16 = 400;
 
 /// Reads the object that a body is; an empty body is an object without a member.
 pub fn read_object(alloc: Global, body: &[u8]) -> Result<Value, DecodeFault>

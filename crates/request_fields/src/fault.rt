@@ -26,6 +26,9 @@ impl From<AllocError> for DecodeFault {
     }
 }
 
+/// The status of a request that is not valid.
+pub const BAD_REQUEST: u16 = 400;
+
 /// The refusal by a rule, with the status of its answer and the path of what it is about. An `Err` is want of memory.
 pub fn refused(
     alloc: Global,

@@ -20,7 +20,7 @@ mod words;
 
 pub use body::read_object;
 pub use content::read_content;
-pub use fault::{DecodeFault, refused};
+pub use fault::{BAD_REQUEST, DecodeFault, refused};
 pub use members::{name_at, token_at};
 pub use part::Part;
 pub use rows::{or_default, or_none, required};

@@ -4,13 +4,11 @@ ghost use Rattle.request_fields.specs.declared.fault.DecodeFault.TheVariants.{Re
 ghost use Rattle.request_fields.specs.Refusals.{Reads, or_refused, field_refusal};
 ghost use Rattle.request_fields.specs.Rows.{needed, or_default as default_for, or_none as none_for};
 
-use crate::fault::{DecodeFault, refused};
+use crate::fault::{BAD_REQUEST, DecodeFault, refused};
 use std::alloc::{AllocError, Global};
 
 /// The number of the rule that each field keeps its own rule.
 const FIELD_RULE: u8 = 7;
-/// The status of a request that is not valid.
-const BAD_REQUEST: u16 = 400;
 
 /// That a field, called by its path, breaks its rule. An `Err` is want of memory.
 pub fn broken(alloc: Global, prefix: &str, name: &str) -> Result<DecodeFault, AllocError>

@@ -6,15 +6,13 @@ ghost use Rattle.request_fields.specs.Members as spec;
 ghost use Rattle.request_fields.specs.declared.part.Part.TheVariants.{Schedule, Target, Group};
 ghost use Rattle.request_fields.specs.Refusals.{Reads};
 
-use crate::fault::{DecodeFault, refused};
+use crate::fault::{BAD_REQUEST, DecodeFault, refused};
 use crate::part::Part;
 use serde_json::{Map, Value};
 use std::alloc::Global;
 
 /// The number of the rule that each member is one of its object's.
 const MEMBER_RULE: u8 = 6;
-/// The status of a request that is not valid.
-const BAD_REQUEST: u16 = 400;
 
 /// Whether an object has a member of this name.
 fn is_member(part: Part, name: &str) -> bool

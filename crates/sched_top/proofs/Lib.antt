@@ -1,3 +1,9 @@
-mod CreationLemmas
+mod ServingStill
+mod ServingQuiet
+mod ServingZones
 mod ServingLemmas
-mod BatchLemmas
+mod ServingRequests
+mod AnswerLemmas
+mod KeepLemmas
+mod RunLemmas
+mod EndLemmas

@@ -1,41 +1,34 @@
 -- One batch run: a history before it, a Boot upon that, and then each request of the input, served over the
 -- history that the one before it left.
-use Rattle.std.specs.Prelude.{◌≡◌, ℕ, ◌+◌, ◌⊎◌, ◌<◌, ◌≤◌, ◌==◌, ◌||◌, Bool, List, [], ◌∷◌, ◌++◌, length, Option, option_map, IfSome, codes, decimal}
-use Rattle.std.specs.List.{flat_map, AllPairs}
-use Rattle.plain_words.specs.declared.moment.Moment.{Moment}
-use Rattle.sched_plain.specs.declared.step.Step.TheVariants.{Boot, Swept}
-use Rattle.sched_plain.specs.History.{History, ◌upon◌, Extends, count}
-use Rattle.plain_words.specs.Ids.{shard_of}
-use Rattle.sched_plain.specs.Moments.{moment}
+use Rattle.std.specs.Prelude.{◌≡◌, ℕ, ◌+◌, ◌-◌, ◌^◌, ◌⊎◌, ◌≤◌, min, List, [], ◌∷◌, ◌++◌, length, Option, IfSome, Err, codes, decimal}
+use Rattle.std.specs.List.{flat_map}
+use Rattle.zone_occ.specs.declared.zone_files.NamedZone.{NamedZone}
 use Rattle.plain_words.specs.Moments.{moment_of}
-use Rattle.sched_plain.specs.Validity.{AllValid}
-use Rattle.sched_plain.specs.Legal.{IsLegal}
-use Rattle.sched_plain.specs.Ledger.{ledger_of}
-use Rattle.sched_plain.specs.Entries.{entries, filed, instants_of}
-use Rattle.plain_words.specs.Lists.{numbers}
-use Rattle.sched_plain.specs.Attempts.{used}
-use Rattle.sched_plain.specs.Marks.{mark}
-use Rattle.book_laws.specs.EntryLaws.{occ_upto}
-use Rattle.book_laws.specs.AttemptLaws.{numbers_of, allowed}
-use Rattle.book_laws.specs.SweepLaws.{NothingLeft}
-use Rattle.plain_book.specs.InUse.{calendar}
+use Rattle.policy_rules.specs.Given.{Gives as GivesWords}
+use Rattle.sched_plain.specs.declared.step.Step.{Step}
+use Rattle.sched_plain.specs.declared.step.Step.TheVariants.{Boot}
+use Rattle.sched_plain.specs.History.{History, ◌upon◌, count}
+use Rattle.sched_plain.specs.Moments.{moment}
+use Rattle.sched_calls.specs.declared.reply.Refusal.{Refusal}
+use Rattle.sched_calls.specs.Replies.{refusal}
 use Rattle.target_link.specs.declared.link.Sent.{Sent}
 use Rattle.http_wire.specs.Devices.{Gives, Gets, GetsPart}
 use Rattle.http_wire.specs.Framing.{Message, message_bytes, IsFramed, request_of, IsNoMessage, TakesPart, TakesAtMostOne}
-use Rattle.http_wire.specs.Response.{refusal_text}
-use Rattle.timer_work.specs.Sendings.{Reported}
 use Rattle.sched_top.specs.declared.batch.BatchEnd.{BatchEnd}
 use Rattle.sched_top.specs.declared.batch.BatchEnd.TheVariants as ends
-use Rattle.sched_top.specs.Serving.{Answers}
+use Rattle.sched_top.specs.Serving.{Taken, Kind, Served as IsServedWhole, ShortOfMemory, ZonesFailed, JournalFull, DiskFailed, Answers, answer_text}
+use Rattle.sched_top.specs.Keeping.{Keeps}
 
 -- the history once the service is started upon it: a Boot at its last moment, 0 for the first
 abbrev pub booted : History → History
 booted h = Boot (moment_of (moment h)) upon h
 
--- a message and the response to it
+-- a message and the response to it, of which kind that is, and what came from outside while it was answered
 pub record Exchange : Type 0 where
   pub message : Message
   pub response : List ℕ
+  pub kind : Kind
+  pub taken : Taken
 
 -- the messages, one behind the other
 abbrev pub bytes_read : List Exchange → List ℕ
@@ -45,155 +38,163 @@ bytes_read exchanges = flat_map (λ x. message_bytes x.message) exchanges
 abbrev pub bytes_sent : List Exchange → List ℕ
 bytes_sent exchanges = flat_map (λ x. x.response) exchanges
 
--- framed messages in their order, each answered over the history and the moment that the one before it left
-abbrev pub Served : History → ℕ → List Exchange → History → ℕ → Type 0
-Served before now [] after at = (after ≡ before) × (at ≡ now)
-Served before now (x ∷ more) after at =
-    (middle : History) × (stated : ℕ) × IsFramed x.message
-    × Answers before now (request_of x.message) middle stated x.response × Served middle stated more after at
+-- the words that the picker gave, one behind the other: those that stand in the steps of a request, then those that were
+-- dropped with an Enter that was not added
+abbrev pub words_of : Taken → List ℕ
+words_of taken = taken.words ++ taken.dropped
+
+-- the same of these requests
+abbrev pub words_given : List Exchange → List ℕ
+words_given exchanges = flat_map (λ x. words_of x.taken) exchanges
+
+-- in memory no step is refused a place
+abbrev pub nothing_full : Step → ℕ → ℕ → Type 0
+nothing_full step end need = ⊥
+
+-- framed messages in their order, each answered over the history and the moment that the one before it left, in memory,
+-- where no journal is full and no disk fails
+abbrev pub Served : Option (List NamedZone) → History → ℕ → List Exchange → History → ℕ → Type 0
+Served zones before now [] after at = (after ≡ before) × (at ≡ now)
+Served zones before now (x ∷ more) after at =
+    (middle : History) × (told : ℕ) × IsFramed x.message
+    × Answers nothing_full ⊥ zones x.kind before now (request_of x.message) x.taken middle told x.response × Served zones middle told more after at
 
 -- the history after a batch run is the one before it, then a Boot, then what the requests added
-abbrev pub Batch : History → List Exchange → History → ℕ → Type 0
-Batch before exchanges after at = Served (booted before) (moment before) exchanges after at
+abbrev pub Batch : Option (List NamedZone) → History → List Exchange → History → ℕ → Type 0
+Batch zones before exchanges after at = Served zones (booted before) (moment before) exchanges after at
 
--- what holds of the entries of an incarnation: there is one for each of its occurrences up to its mark and for
--- nothing else, and the attempts of each count from 1 and are no more than its retries allow
-pub record IsKept (h : History) (inc : ℕ) : Type 0 where
-  pub exact : instants_of (entries (ledger_of h) inc) ≡ occ_upto calendar h inc (mark h inc)
-  pub once : AllPairs (λ earlier later. earlier < later) (instants_of (entries (ledger_of h) inc))
-  pub numbered : (instant : ℕ) → numbers_of h inc instant ≡ numbers 1 (used (ledger_of h) inc instant)
-  pub limited : (instant : ℕ) → used (ledger_of h) inc instant ≤ allowed (filed (ledger_of h) inc instant)
+-- one for a request that was answered that its zone could not be read
+abbrev pub zone_failure : Kind → ℕ
+zone_failure IsServedWhole = 0
+zone_failure ShortOfMemory = 0
+zone_failure ZonesFailed = 1
+zone_failure JournalFull = 0
+zone_failure DiskFailed = 0
 
--- each Swept of the history left nothing to do at its moment in its shard: no occurrence without an entry, and no entry
--- that is due, exhausted or live
-abbrev pub IsSettled : History → Type 0
-IsSettled h =
-    (earlier : History) (at : Moment) (shard inc : ℕ) → Extends (Swept at shard upon earlier) h → shard ≡ shard_of inc
-    → NothingLeft calendar (Swept at shard upon earlier) inc at.0
+-- how many of these requests were answered so
+abbrev pub zone_failures : List Exchange → ℕ
+zone_failures [] = 0
+zone_failures (x ∷ more) = zone_failure x.kind + zone_failures more
 
--- the link was handed the requests of the history's attempts, behind what it had told before
-pub record IsHanded (h : History) (told told' : Option (List Sent)) : Type 0 where
-  pub sent : List Sent
-  pub more : told' ≡ option_map (λ earlier. earlier ++ sent) told
-  pub reported : Reported h sent
+-- a count of faults has risen by so many, or stands at the greatest u64
+abbrev pub RoseBy : ℕ → ℕ → ℕ → Type 0
+RoseBy many before now = min (before + many) (2 ^ 64 - 1) ≤ now
 
--- what a run keeps: its history is the one before it, a Boot and further steps, and legal; each occurrence up to
--- its schedule's mark has one entry and no other is there; what was swept is settled; and the link was handed the
--- attempts of the history
-pub record Keeps (before h : History) (told told' : Option (List Sent)) : Type 0 where
-  pub grows : Extends (booted before) h
-  pub legal : IsLegal calendar h
-  pub valid : AllValid h
-  pub kept : (inc : ℕ) → IsKept h inc
-  pub settled : IsSettled h
-  pub handed : IsHanded h told told'
-
--- what a batch run did up to an answer: so many requests were read, served and answered, and nothing else was
--- taken from the source (which told `left` before and tells `left'` now) or given to the sink (`got` and `got'`)
-pub record Ran (number : ℕ) (before after : History) (at : ℕ) (left left' got got' : Option (List ℕ)) : Type 0 where
-  pub exchanges : List Exchange
-  pub many : length exchanges ≡ number
-  pub batch : Batch before exchanges after at
-  pub read : Gives left (bytes_read exchanges) left'
-  pub sent : Gets got (bytes_sent exchanges) got'
-
--- what a source told before and now, a sink, and a link
+-- what the devices of a run tell: what is left in its source, what its sink got, which words its picker gave, what its link
+-- was handed, and how many calls for a zone failed
 pub record Told : Type 0 where
   pub left : Option (List ℕ)
   pub got : Option (List ℕ)
+  pub words : Option (List ℕ)
   pub handed : Option (List Sent)
+  pub zone_faults : ℕ
+
+-- the same, each in its turn
+abbrev pub tells : Option (List ℕ) → Option (List ℕ) → Option (List ℕ) → Option (List Sent) → ℕ → Told
+tells left got words handed zone_faults = record { left = left; got = got; words = words; handed = handed; zone_faults = zone_faults }
+
+-- what a batch run did up to an answer: so many requests were read, served and answered, nothing else was taken from the
+-- source or given to the sink, no other word was drawn, and the count of failed calls for zones rose with each request that
+-- was answered so
+pub record Ran (zones : Option (List NamedZone)) (number : ℕ) (before after : History) (at : ℕ) (old new : Told) : Type 0 where
+  pub exchanges : List Exchange
+  pub many : length exchanges ≡ number
+  pub batch : Batch zones before exchanges after at
+  pub read : Gives old.left (bytes_read exchanges) new.left
+  pub sent : Gets old.got (bytes_sent exchanges) new.got
+  pub drew : GivesWords old.words (words_given exchanges) new.words
+  pub failed : RoseBy (zone_failures exchanges) old.zone_faults new.zone_faults
 
 -- the run came to the end of its input, and every request was answered
-pub record RunFinished (before : History) (old new : Told) : Type 0 where
+pub record RunFinished (zones : Option (List NamedZone)) (before : History) (old new : Told) : Type 0 where
   pub number : ℕ
   pub after : History
   pub at : ℕ
-  pub ran : Ran number before after at old.left new.left old.got new.got
-  pub keeps : Keeps before after old.handed new.handed
+  pub ran : Ran zones number before after at old new
+  pub keeps : Keeps (booted before) after old.handed new.handed
   pub ends : IfSome new.left (λ bytes. bytes ≡ [])
 
--- the run stopped behind its last answer: what was taken since is no whole request, and nothing more was given
-pub record RunStopped (before : History) (old new : Told) : Type 0 where
+-- the run stopped behind its last answer: what was taken since is so, and nothing more was given, drawn or handed
+pub record RunLeft (Takes : Option (List ℕ) → Option (List ℕ) → Type 0) (zones : Option (List NamedZone)) (before : History) (old new : Told) : Type 0 where
   pub number : ℕ
   pub after : History
   pub at : ℕ
-  pub behind : Option (List ℕ)
-  pub ran : Ran number before after at old.left behind old.got new.got
-  pub keeps : Keeps before after old.handed new.handed
-  pub taken : TakesPart behind new.left
+  pub last : Told
+  pub ran : Ran zones number before after at old last
+  pub keeps : Keeps (booted before) after old.handed last.handed
+  pub took : Takes last.left new.left
+  pub rest : new ≡ record last { left = new.left }
 
--- memory was wanted behind the last answer: nothing past the next request was taken, and nothing more was given
-pub record RunWanting (before : History) (old new : Told) : Type 0 where
-  pub number : ℕ
-  pub after : History
-  pub at : ℕ
-  pub behind : Option (List ℕ)
-  pub ran : Ran number before after at old.left behind old.got new.got
-  pub keeps : Keeps before after old.handed new.handed
-  pub taken : TakesAtMostOne behind new.left
+-- the source failed: what was taken since the last answer is no whole request
+abbrev pub RunStopped : Option (List NamedZone) → History → Told → Told → Type 0
+RunStopped zones before old new = RunLeft TakesPart zones before old new
 
--- the same, or memory was wanted before the Boot: nothing was read, given or sent
-abbrev pub RunShort : History → Told → Told → Type 0
-RunShort before old new = (new ≡ old) ⊎ RunWanting before old new
+-- memory was wanted: before the Boot, and nothing was done; or behind the last answer, and nothing past the next request was
+-- taken
+abbrev pub RunShort : Option (List NamedZone) → History → Told → Told → Type 0
+RunShort zones before old new = (new ≡ old) ⊎ RunLeft TakesAtMostOne zones before old new
 
--- the answer to what is no request, over a history with so many steps: which one it is, counted from 1
+-- rule 1: what stands there is no request; which one it would be, counted from 1
+abbrev pub unframed : ℕ → Refusal
+unframed number = refusal 1 400 (codes "request " ++ decimal number)
+
+-- the answer to it, over a history with so many steps
 abbrev pub unframed_text : ℕ → ℕ → List ℕ
-unframed_text number steps = refusal_text 400 1 (codes "request " ++ decimal number) steps
+unframed_text number steps = answer_text (Err (unframed number)) steps
 
--- something stands behind the last request, and it is none; it was answered so, and nothing more was taken or given
-pub record RunUnframed (before : History) (old new : Told) : Type 0 where
+-- something stands behind the last request, and it is none; it was answered so, and nothing else was done
+pub record RunUnframed (zones : Option (List NamedZone)) (before : History) (old new : Told) : Type 0 where
   pub number : ℕ
   pub after : History
   pub at : ℕ
-  pub behind : Option (List ℕ)
-  pub sent : Option (List ℕ)
-  pub ran : Ran number before after at old.left behind old.got sent
-  pub keeps : Keeps before after old.handed new.handed
-  pub none : IfSome behind IsNoMessage
-  pub taken : TakesPart behind new.left
-  pub answered : Gets sent (unframed_text (number + 1) (count after)) new.got
+  pub last : Told
+  pub ran : Ran zones number before after at old last
+  pub keeps : Keeps (booted before) after old.handed last.handed
+  pub none : IfSome last.left IsNoMessage
+  pub took : TakesPart last.left new.left
+  pub answered : Gets last.got (unframed_text (number + 1) (count after)) new.got
+  pub rest : new ≡ record last { left = new.left; got = new.got }
 
 -- the next request was read, not one byte more, and this is its response; the history is the one at that answer
-pub record AnswersNext (after : History) (at : ℕ) (behind left : Option (List ℕ)) (response : List ℕ) (last : History) : Type 0 where
+pub record AnswersNext (zones : Option (List NamedZone)) (after : History) (at : ℕ) (old new : Told) (response : List ℕ) (last : History) : Type 0 where
   pub message : Message
   pub framed : IsFramed message
-  pub taken : Gives behind (message_bytes message) left
-  pub stated : ℕ
-  pub served : Answers after at (request_of message) last stated response
+  pub read : Gives old.left (message_bytes message) new.left
+  pub kind : Kind
+  pub taken : Taken
+  pub told : ℕ
+  pub served : Answers nothing_full ⊥ zones kind after at (request_of message) taken last told response
+  pub drew : GivesWords old.words (words_of taken) new.words
+  pub failed : RoseBy (zone_failure kind) old.zone_faults new.zone_faults
 
--- or something stands there that is none, and this is the answer; the history is as it was
-pub record AnswersNone (number : ℕ) (after : History) (behind left : Option (List ℕ)) (response : List ℕ) (last : History) : Type 0 where
-  pub none : IfSome behind IsNoMessage
-  pub taken : TakesPart behind left
+-- or something stands there that is none, and this is the answer; nothing else was done
+pub record AnswersNone (number : ℕ) (after : History) (old new : Told) (response : List ℕ) (last : History) : Type 0 where
+  pub none : IfSome old.left IsNoMessage
+  pub took : TakesPart old.left new.left
   pub text : response ≡ unframed_text (number + 1) (count after)
   pub same : last ≡ after
+  pub rest : new ≡ record old { left = new.left; got = new.got }
 
 -- the sink failed while an answer was given: a front of it was taken
-pub record RunCutOff (before : History) (old new : Told) : Type 0 where
+pub record RunCutOff (zones : Option (List NamedZone)) (before : History) (old new : Told) : Type 0 where
   pub number : ℕ
   pub after : History
   pub at : ℕ
-  pub behind : Option (List ℕ)
-  pub sent : Option (List ℕ)
-  pub ran : Ran number before after at old.left behind old.got sent
+  pub last : Told
+  pub ran : Ran zones number before after at old last
   pub response : List ℕ
-  pub last : History
-  pub due : AnswersNext after at behind new.left response last ⊎ AnswersNone number after behind new.left response last
-  pub keeps : Keeps before last old.handed new.handed
-  pub part : GetsPart sent response new.got
+  pub at_end : History
+  pub due : AnswersNext zones after at last new response at_end ⊎ AnswersNone number after last new response at_end
+  pub keeps : Keeps (booted before) at_end old.handed new.handed
+  pub part : GetsPart last.got response new.got
 
--- how a run ends, by what a source, a sink and a link told before and tell now
-abbrev pub RunEnds : BatchEnd → History → Told → Told → Type 0
-RunEnds ends.Finished before old new = RunFinished before old new
-RunEnds ends.SourceFailed before old new = RunStopped before old new
-RunEnds ends.SinkFailed before old new = RunCutOff before old new
-RunEnds ends.OutOfMemory before old new = RunWanting before old new
-RunEnds ends.Unframed before old new = RunUnframed before old new
-
--- how a batch ends: as its run does; memory may be wanted before the Boot too
-abbrev pub BatchEnds : BatchEnd → History → Told → Told → Type 0
-BatchEnds ends.OutOfMemory before old new = RunShort before old new
-BatchEnds end before old new = RunEnds end before old new
+-- how a run ends, by what its devices told before and tell now
+abbrev pub RunEnds : BatchEnd → Option (List NamedZone) → History → Told → Told → Type 0
+RunEnds ends.Finished zones before old new = RunFinished zones before old new
+RunEnds ends.SourceFailed zones before old new = RunStopped zones before old new
+RunEnds ends.SinkFailed zones before old new = RunCutOff zones before old new
+RunEnds ends.OutOfMemory zones before old new = RunShort zones before old new
+RunEnds ends.Unframed zones before old new = RunUnframed zones before old new
 
 -- how a run ends with the answer to what is no request: it was given, or a front of it was, or memory was wanted for it
 -- and nothing was given
@@ -207,10 +208,16 @@ RefusalEnds end got answer got' = ⊥
 abbrev pub IsBatch : List (List ℕ) → Type 0
 IsBatch words = words ≡ codes "batch" ∷ []
 
--- the exit statuses of a batch run, which ends in one of five ways
-abbrev pub is_end_status : ℕ → Bool
-is_end_status status = status == 0 || status == 3 || status == 4 || status == 7 || status == 8
+-- the exit status of a batch run
+abbrev pub status_of : BatchEnd → ℕ
+status_of ends.Finished = 0
+status_of ends.SourceFailed = 3
+status_of ends.SinkFailed = 4
+status_of ends.OutOfMemory = 7
+status_of ends.Unframed = 8
 
--- the exit statuses of the top call
-abbrev pub is_exit_status : ℕ → Bool
-is_exit_status status = is_end_status status || status == 2
+-- a batch run ends in one of five ways, and its exit status says in which
+pub record EndsWith (status : ℕ) (zones : Option (List NamedZone)) (before : History) (old new : Told) : Type 0 where
+  pub end : BatchEnd
+  pub says : status ≡ status_of end
+  pub run : RunEnds end zones before old new

@@ -1,3 +1,6 @@
 pub mod Serving
-pub mod Batch
+pub mod Asking
 pub mod Turns
+pub mod Keeping
+pub mod Batch
+pub mod Running

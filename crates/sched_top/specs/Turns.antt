@@ -1,79 +1,54 @@
--- What the functions of the service pass on: the history that a machine stands for, and what a call added to it.
-use Rattle.std.specs.Prelude.{◌≡◌, ◌⊎◌, ℕ, ◌≤◌, List, [], Option, Result, Ok}
-use Rattle.sched_calls.specs.declared.call.Call.TheVariants as calls
-use Rattle.sched_plain.specs.declared.write.Write.{Write}
-use Rattle.sched_calls.specs.declared.reply.Refusal.{Refusal}
-use Rattle.sched_calls.specs.declared.reply.Reply.{Reply}
-use Rattle.sched_calls.specs.declared.reply.Reply.TheVariants.{Settled}
-use Rattle.sched_plain.specs.History.{History, Extends, count}
-use Rattle.sched_plain.specs.Moments.{moment}
-use Rattle.plain_words.specs.Moments.{moment_of, last_moment}
-use Rattle.sched_calls.specs.Serves.{End, ServesWrite, Sweeps, all_shards, IsCut}
-use Rattle.plain_book.specs.InUse.{calendar}
-use Rattle.plain_book.specs.Form.{IsSound}
+-- One request answered over what a keeper stands for: which history was found, what came from outside meanwhile, and the
+-- response.
+use Rattle.std.specs.Prelude.{ℕ, Option, List, ◌++◌}
+use Rattle.outside.specs.Faults.{Rose}
+use Rattle.zone_occ.specs.declared.zone_files.NamedZone.{NamedZone}
 use Rattle.target_link.specs.declared.link.Sent.{Sent}
+use Rattle.policy_rules.specs.Given.{Gives}
+use Rattle.sched_plain.specs.declared.step.Step.{Step}
+use Rattle.sched_plain.specs.History.{History}
+use Rattle.sched_calls.specs.Serves.{Finds}
+use Rattle.sweep_laws.specs.KeptLaws.{NoOtherHolds}
+use Rattle.timer_work.specs.Swept.{Sends}
 use Rattle.http_wire.specs.declared.request.HttpRequest.{HttpRequest}
-use Rattle.http_wire.specs.Devices.{Gets, GetsPart}
-use Rattle.timer_work.specs.Sweeping.{OnlyWorkerZero, Sends, zeros}
-use Rattle.sched_top.specs.Serving.{no_zones, answer_text, Answers, IsUntouched, IsCutCall}
-use Rattle.sched_top.specs.Batch.{booted, Ran, IsHanded, Told}
+use Rattle.http_wire.specs.Response.{memory_text}
+use Rattle.sched_top.specs.declared.service.response.Response.{Response}
+use Rattle.sched_top.specs.declared.service.response.Response.TheVariants as responses
+use Rattle.sched_top.specs.Serving.{Kind, Served, ShortOfMemory, ZonesFailed, JournalFull, DiskFailed, Taken, Answers}
 
--- a history that the service can go on from at a moment
-pub record IsReady (h : History) (now : ℕ) : Type 0 where
-  pub sound : IsSound h
-  pub only : OnlyWorkerZero h
-  pub early : moment h ≤ now
-  pub late : now ≤ last_moment
+-- how a request was answered, by its response
+abbrev pub kind_of : Response → Kind
+kind_of (responses.Served text) = Served
+kind_of responses.ShortOfMemory = ShortOfMemory
+kind_of (responses.ZonesFailed text) = ZonesFailed
+kind_of (responses.JournalFull text) = JournalFull
+kind_of (responses.DiskFailed text) = DiskFailed
 
--- the machine stands for a further history, and this is what holds of it
-pub record Turn (stands : History → Type 0) (before : History) (now : ℕ) (told told' : Option (List Sent)) (P : History → Type 0) : Type 0 where
-  pub after : History
-  pub now_stands : stands after
-  pub ready : IsReady after now
-  pub grows : Extends before after
-  pub counts : count before ≤ count after
-  pub sends : Sends before after told told'
-  pub outcome : P after
+-- the bytes of a response
+abbrev pub bytes_of : Response → List ℕ
+bytes_of (responses.Served text) = text.items
+bytes_of responses.ShortOfMemory = memory_text
+bytes_of (responses.ZonesFailed text) = text.items
+bytes_of (responses.JournalFull text) = text.items
+bytes_of (responses.DiskFailed text) = text.items
 
--- the write was served, and this is the response
-pub record WriteServed (before : History) (at : ℕ) (write : Write) (after : History) (response : List ℕ) : Type 0 where
-  pub answer : Result Reply Refusal
-  pub serves : ServesWrite calendar no_zones at before write [] after [] answer
-  pub text : response ≡ answer_text answer (count after)
+-- what lies outside and tells what it did: the words that a picker gave, and what a link was handed
+pub record Outside : Type 0 where
+  pub words : Option (List ℕ)
+  pub sent : Option (List Sent)
 
--- a call was cut
-abbrev pub IsPart : History → ℕ → HttpRequest → ℕ → History → Type 0
-IsPart before now request at after = IsUntouched before now request after at ⊎ IsCutCall before now request after at
+-- one request answered: over the history that was found, with the words that the picker gave and the requests that the link was
+-- handed meanwhile. No worker but worker 0 holds a shard past the moment
+pub record Turn (full : Step → ℕ → ℕ → Type 0) (failed : Type 0) (zones : Option (List NamedZone)) (doubt : Option Step) (now : ℕ) (request : HttpRequest) (at : ℕ) (old new : Outside) (response : Response) (h after : History) : Type 0 where
+  pub found : History
+  pub finds : Finds h doubt found
+  pub taken : Taken
+  pub answers : Answers full failed zones (kind_of response) found now request taken after at (bytes_of response)
+  pub gives : Gives old.words (taken.words ++ taken.dropped) new.words
+  pub sends : Sends found after old.sent new.sent
+  pub free : NoOtherHolds after at
 
--- a response was given
-pub record IsGiven (before : History) (now : ℕ) (request : HttpRequest) (at : ℕ) (got got' : Option (List ℕ)) (after : History) : Type 0 where
-  pub response : List ℕ
-  pub answers : Answers before now request after at response
-  pub given : Gets got response got'
-
--- a front of a response was given
-pub record IsPartGiven (before : History) (now : ℕ) (request : HttpRequest) (at : ℕ) (got got' : Option (List ℕ)) (after : History) : Type 0 where
-  pub response : List ℕ
-  pub answers : Answers before now request after at response
-  pub given : GetsPart got response got'
-
--- a run, up to its last answer: what it did, and the history that the machine stands for
-pub record Underway (stands : History → Type 0) (number : ℕ) (before : History) (now : ℕ) (old new : Told) : Type 0 where
-  pub after : History
-  pub now_stands : stands after
-  pub ready : IsReady after now
-  pub grows : Extends (booted before) after
-  pub ran : Ran number before after now old.left new.left old.got new.got
-  pub handed : IsHanded after old.handed new.handed
-
--- a sweep was served, and this is the response
-pub record SweepServed (before : History) (at : ℕ) (after : History) (response : List ℕ) : Type 0 where
-  pub ends : List End
-  pub swept : Sweeps calendar at all_shards before [] ends after [] []
-  pub text : response ≡ answer_text (Ok (Settled (moment_of at))) (count after)
-
--- a sweep was cut by want of memory
-pub record SweepWanting (before : History) (at : ℕ) (after : History) : Type 0 where
-  pub drawn : ℕ
-  pub ends : List End
-  pub cut : IsCut calendar no_zones at before (zeros drawn) ends calls.Sweep after
+-- zones are said to have failed only where the count of their faults has risen
+abbrev pub ZonesRose : ℕ → ℕ → Response → Type 0
+ZonesRose before now (responses.ZonesFailed text) = Rose before now
+ZonesRose before now response = Unit {0}

@@ -1,14 +1,18 @@
 //! The words of the top call.
-ghost use Rattle.std.specs.Prelude.{◌≡◌, ◌↔◌, map, IsTrue};
+ghost use Rattle.std.specs.Prelude.{◌≡◌, ◌≢◌, ◌↔◌, map, IsTrue};
 ghost use Rattle.sched_plain.specs.History.{beginning};
-ghost use Rattle.sched_top.specs.Batch.{IsBatch, is_end_status, is_exit_status, RunFinished, RunStopped, RunShort, RunUnframed, RunCutOff};
 ghost use Rattle.outside.specs.Faults.{Rose};
+ghost use Rattle.sched_top.specs.Batch.{IsBatch, EndsWith, RunEnds, tells, status_of as status_said};
 
 use crate::batch::{BatchEnd, run_batch};
+use book_core::Book;
 use http_wire::{Sink, Source};
-use plain_book::Book;
+use policy_rules::Picker;
 use std::alloc::Global;
+use step_keeper::MemoryKeeper;
+use step_machine::Machine;
 use target_link::Link;
+use zone_occ::ZoneFiles;
 
 /// The input was read to its end, and every request was answered.
 const FINISHED: u8 = 0;
@@ -38,13 +42,9 @@ fn is_batch(words: &[&str]) -> bool
     }
 }
 
+/// The exit status of a batch run.
 fn status_of(end: BatchEnd) -> u8
-    ensures finished { result ≡ 0 ↔ end ≡ BatchEnd.Finished }
-    ensures source_failed { result ≡ 3 ↔ end ≡ BatchEnd.SourceFailed }
-    ensures sink_failed { result ≡ 4 ↔ end ≡ BatchEnd.SinkFailed }
-    ensures memory { result ≡ 7 ↔ end ≡ BatchEnd.OutOfMemory }
-    ensures unframed { result ≡ 8 ↔ end ≡ BatchEnd.Unframed }
-    ensures statuses { IsTrue (is_end_status result) }
+    ensures { result ≡ status_said end }
 {
     match end {
         BatchEnd::Finished => FINISHED,
@@ -55,12 +55,34 @@ fn status_of(end: BatchEnd) -> u8
     }
 }
 
-/// The top call: runs the command that the words say over a source, a sink and a link to targets, and returns the
-/// program's exit status. It waits for nobody and always returns. The one command is `batch`.
+/// Runs a batch over a machine of the empty history, whose steps are kept in memory alone.
+fn run_upon<M: Machine + Drop, S: Source, K: Sink, Z: ZoneFiles, P: Picker, L: Link>(
+    alloc: Global,
+    machine: M,
+    source: &mut S,
+    sink: &mut K,
+    zones: &mut Z,
+    picker: &mut P,
+    link: &mut L,
+) -> BatchEnd
+    requires { M.stands machine beginning }
+    ensures ends { RunEnds result (Z.told zones.old) beginning
+        (tells (S.left source.old) (K.got sink.old) (P.told picker.old) (L.told link.old) (Z.faults zones.old))
+        (tells (S.left source.new) (K.got sink.new) (P.told picker.new) (L.told link.new) (Z.faults zones.new)) }
+    ensures source_rose { result ≡ BatchEnd.SourceFailed
+        → Rose (S.faults source.old) (S.faults source.new) }
+    ensures sink_rose { result ≡ BatchEnd.SinkFailed
+        → Rose (K.faults sink.old) (K.faults sink.new) }
+{
+    let mut keeper = MemoryKeeper::new(machine);
+    run_batch(alloc, &mut keeper, source, sink, zones, picker, link)
+}
+
+/// The top call: runs the command that the words say over a source, a sink, a source of zones, a picker and a link to targets,
+/// and returns the program's exit status. It waits for nobody and always returns. The one command is `batch`.
 ///
-/// `batch` starts the service upon an empty history and answers the requests of the source (RFC 9112) one after
-/// the other, each before the next is read, over the history that the one before it left. A creation adds a schedule
-/// (EventBridge Scheduler User Guide, `CreateSchedule`); a sweep sends what is due to its targets by the link.
+/// `batch` starts the service upon an empty history, which it keeps in memory, and answers the requests of the source (RFC 9112)
+/// one after the other, each before the next is read, over the history that the one before it left.
 ///
 /// | status | comes |
 /// |---|---|
@@ -70,43 +92,29 @@ fn status_of(end: BatchEnd) -> u8
 /// | 4 | a call of the sink failed; a front of the answers was taken |
 /// | 7 | memory was wanted outside a request; every request before was answered |
 /// | 8 | a request could not be framed, and that was answered; nothing was read or written after it |
-pub fn run_words<S: Source, K: Sink, L: Link>(
+pub fn run_words<S: Source, K: Sink, Z: ZoneFiles, P: Picker, L: Link>(
     alloc: Global,
     words: &[&str],
     source: &mut S,
     sink: &mut K,
+    zones: &mut Z,
+    picker: &mut P,
     link: &mut L,
 ) -> u8
     ensures usage { (result ≡ 2) ↔ ¬ (IsBatch (map (λ word. word.now) words.now)) }
-    ensures untouched { result ≡ 2 → (source.new ≡ source.old) × (sink.new ≡ sink.old) × (link.new ≡ link.old) }
-
-    ensures finished { result ≡ 0 → RunFinished beginning
-        (record { left = S.left source.old; got = K.got sink.old; handed = L.told link.old })
-        (record { left = S.left source.new; got = K.got sink.new; handed = L.told link.new }) }
-    ensures source_failed { result ≡ 3 → RunStopped beginning
-        (record { left = S.left source.old; got = K.got sink.old; handed = L.told link.old })
-        (record { left = S.left source.new; got = K.got sink.new; handed = L.told link.new }) }
-    ensures source_rose { result ≡ 3
-        → Rose (S.faults source.old) (S.faults source.new) }
-    ensures sink_failed { result ≡ 4 → RunCutOff beginning
-        (record { left = S.left source.old; got = K.got sink.old; handed = L.told link.old })
-        (record { left = S.left source.new; got = K.got sink.new; handed = L.told link.new }) }
-    ensures sink_rose { result ≡ 4
-        → Rose (K.faults sink.old) (K.faults sink.new) }
-    ensures unframed { result ≡ 8 → RunUnframed beginning
-        (record { left = S.left source.old; got = K.got sink.old; handed = L.told link.old })
-        (record { left = S.left source.new; got = K.got sink.new; handed = L.told link.new }) }
-    ensures memory { result ≡ 7 → RunShort beginning
-        (record { left = S.left source.old; got = K.got sink.old; handed = L.told link.old })
-        (record { left = S.left source.new; got = K.got sink.new; handed = L.told link.new }) }
-    ensures statuses { IsTrue (is_exit_status result) }
+    ensures untouched { result ≡ 2 → (source.new ≡ source.old) × (sink.new ≡ sink.old) × (zones.new ≡ zones.old) × (picker.new ≡ picker.old) × (link.new ≡ link.old) }
+    ensures ends { result ≢ 2 → EndsWith result (Z.told zones.old) beginning
+        (tells (S.left source.old) (K.got sink.old) (P.told picker.old) (L.told link.old) (Z.faults zones.old))
+        (tells (S.left source.new) (K.got sink.new) (P.told picker.new) (L.told link.new) (Z.faults zones.new)) }
+    ensures source_rose { result ≡ 3 → Rose (S.faults source.old) (S.faults source.new) }
+    ensures sink_rose { result ≡ 4 → Rose (K.faults sink.old) (K.faults sink.new) }
 {
     if !is_batch(words) {
         return FAULTY_WORDS;
     }
-    let Ok(mut book) = Book::new(alloc) else {
+    let Ok(book) = Book::new(alloc) else {
         return OUT_OF_MEMORY;
     };
-    let end = run_batch(alloc, &mut book, source, sink, link);
+    let end = run_upon(alloc, book, source, sink, zones, picker, link);
     status_of(end)
 }

@@ -1,21 +1,19 @@
 //! What is framed as a request, over devices in memory that move few bytes in a call and fail.
-use crate::texts::{Answered, answer_text, error_text};
+use crate::texts::answer_text;
 use http_wire::{MemSink, MemSource};
+use policy_rules::ListPicker;
 use sched_top::run_words;
 use std::alloc::{AllocError, Global};
 use std::process::Abort;
 use std::test::Fail;
 use target_link::ScriptLink;
+use zone_occ::MapZones;
 
-/// The answer to a framed request of no form, over the Boot alone.
-fn not_yet(alloc: Global) -> Result<String, AllocError> {
-    answer_text(alloc, Answered::NotYet(1))
-}
+/// A request for nothing that there is.
+const NOWHERE: &[u8] = b"GET / HTTP/1.1\r\n\r\n";
 
-/// The answer to what is no request, which is named so.
-fn no_request(alloc: Global, message: &str) -> Result<String, AllocError> {
-    error_text(alloc, "400 Bad Request", "ValidationException", 1, message)
-}
+/// The answer to it, over the Boot alone.
+const NO_ROUTE: &str = "404 1 {\"Message\":\"rule 3: /\"}";
 
 /// What a run gave: its status, the bytes that it wrote, and how many bytes of the input are left.
 #[derive(Drop)]
@@ -37,7 +35,17 @@ fn run(
     let mut source = MemSource::new(input.to_vec(alloc)?, most, reads.to_vec(alloc)?);
     let mut sink = MemSink::new(alloc, most, writes.to_vec(alloc)?);
     let mut link = ScriptLink::new(alloc, Vec::new(alloc));
-    let status = run_words(alloc, &["batch"], &mut source, &mut sink, &mut link);
+    let mut zones = MapZones::new(Vec::new(alloc), Vec::new(alloc));
+    let mut picker = ListPicker::new(Vec::new(alloc));
+    let status = run_words(
+        alloc,
+        &["batch"],
+        &mut source,
+        &mut sink,
+        &mut zones,
+        &mut picker,
+        &mut link,
+    );
     Ok(Outcome {
         status,
         output: sink.as_bytes().to_vec(alloc)?,
@@ -63,9 +71,14 @@ fn repeated(alloc: Global, piece: &[u8], times: usize) -> Result<Vec<u8>, AllocE
     Ok(all)
 }
 
-/// Each input is one framed request.
-fn check_framed(rt: &impl Abort, alloc: Global, input: &[u8]) -> Result<(), AllocError> {
-    let answer = not_yet(alloc)?;
+/// The input is one framed request, which is answered so.
+fn check_framed(
+    rt: &impl Abort,
+    alloc: Global,
+    input: &[u8],
+    line: &str,
+) -> Result<(), AllocError> {
+    let answer = answer_text(alloc, line)?;
     for most in [1, 7, 1_000_000] {
         let one = run(alloc, input, most, &[], &[])?;
         assert_eq!(rt; one.status, 0);
@@ -81,22 +94,22 @@ fn check_framed(rt: &impl Abort, alloc: Global, input: &[u8]) -> Result<(), Allo
     Ok(())
 }
 
-/// Each input is no request, first and second in a stream; so much of what follows is left.
+/// The input is no request, first and second in a stream; so much of what follows is left.
 fn check_unframed(
     rt: &impl Abort,
     alloc: Global,
     input: &[u8],
     left: usize,
 ) -> Result<(), AllocError> {
-    let no_first = no_request(alloc, "rule 1: request 1")?;
-    let no_second = no_request(alloc, "rule 1: request 2")?;
-    let answer = not_yet(alloc)?;
+    let no_first = answer_text(alloc, "400 1 {\"Message\":\"rule 1: request 1\"}")?;
+    let no_second = answer_text(alloc, "400 1 {\"Message\":\"rule 1: request 2\"}")?;
+    let answer = answer_text(alloc, NO_ROUTE)?;
     for most in [1, 7, 1_000_000] {
         let first = run(alloc, input, most, &[], &[])?;
         assert_eq!(rt; first.status, 8);
         assert_eq!(rt; first.output.as_slice(), no_first.as_bytes());
         assert_eq!(rt; first.left, left);
-        let stream = joined(alloc, &[b"GET / HTTP/1.1\r\n\r\n", input])?;
+        let stream = joined(alloc, &[NOWHERE, input])?;
         let second = run(alloc, &stream, most, &[], &[])?;
         assert_eq!(rt; second.status, 8);
         assert_eq!(rt;
@@ -111,34 +124,58 @@ fn check_unframed(
 #[test]
 fn frames_requests(rt: HostRuntime) -> Result<(), Fail> {
     let alloc = rt.alloc();
-    let inputs: [&[u8]; 9] = [
-        b"GET / HTTP/1.1\r\n\r\n",
-        b"GET / HTTP/1.0\n\n",
-        b"\r\n\r\nGET / HTTP/1.1\r\n\r\n",
-        b"POST /sweep HTTP/1.1\r\nX-Moment: 5\r\nx-moment: 6\r\nHost: a\r\n\r\n",
-        b"PUT /schedules/a?b=c HTTP/1.1\r\nContent-Length: 2\r\n\r\n{}",
-        b"PUT /a HTTP/1.1\r\ncontent-LENGTH:\t000005 \r\nExpect: 100-continue\r\n\r\n\r\n\r\n\r",
-        b"anything * HTTP/1.1\r\nContent-Length: 0\r\n\r\n",
-        b"POST /\xc3\xa9 HTTP/1.1\r\nContent-Length: 000000\r\n\r\n",
-        b"POST /schedules/once HTTP/1.1\r\nX-Moment: 900\r\nContent-Length: 1\r\n\r\n\0",
+    let inputs: [(&[u8], &str); 9] = [
+        (NOWHERE, NO_ROUTE),
+        (b"GET / HTTP/1.0\n\n", NO_ROUTE),
+        (b"\r\n\r\nGET / HTTP/1.1\r\n\r\n", NO_ROUTE),
+        (
+            b"POST /sweep HTTP/1.1\r\nX-Moment: 5\r\nx-moment: 6\r\nHost: a\r\n\r\n",
+            "400 1 {\"Message\":\"rule 2: X-Moment\"}",
+        ),
+        (
+            b"PUT /schedules/a?b=c HTTP/1.1\r\nContent-Length: 2\r\n\r\n{}",
+            "400 1 {\"Message\":\"rule 7: ScheduleExpression\"}",
+        ),
+        (
+            b"PUT /a HTTP/1.1\r\ncontent-LENGTH:\t000005 \r\nExpect: 100-continue\r\n\r\n\r\n\r\n\r",
+            "404 1 {\"Message\":\"rule 3: /a\"}",
+        ),
+        (
+            b"anything * HTTP/1.1\r\nContent-Length: 0\r\n\r\n",
+            "404 1 {\"Message\":\"rule 3: *\"}",
+        ),
+        (
+            b"POST /\xc3\xa9 HTTP/1.1\r\nContent-Length: 000000\r\n\r\n",
+            "404 1 {\"Message\":\"rule 3: /\u{e9}\"}",
+        ),
+        (
+            b"POST /schedules/once HTTP/1.1\r\nX-Moment: 900\r\nContent-Length: 1\r\n\r\n\0",
+            "400 1 {\"Message\":\"rule 5: body\"}",
+        ),
     ];
-    for input in inputs {
-        check_framed(&rt, alloc, input)?;
+    for (input, line) in inputs {
+        check_framed(&rt, alloc, input, line)?;
     }
-    // a head of 16,384 bytes, 64 headers, and a body of 262,144 bytes
+    Ok(())
+}
+
+/// A head of 16,384 bytes, 64 headers, and a body of 262,144 bytes.
+#[test]
+fn frames_the_largest_requests(rt: HostRuntime) -> Result<(), Fail> {
+    let alloc = rt.alloc();
     let filler = repeated(alloc, b"x", 16_361)?;
     let long = joined(alloc, &[b"GET / HTTP/1.1\r\nA: ", &filler, b"\r\n\r\n"])?;
     assert_eq!(rt; long.len(), 16_384);
-    check_framed(&rt, alloc, &long)?;
+    check_framed(&rt, alloc, &long, NO_ROUTE)?;
     let headers = repeated(alloc, b"A: b\r\n", 64)?;
     let many = joined(alloc, &[b"GET / HTTP/1.1\r\n", &headers, b"\r\n"])?;
-    check_framed(&rt, alloc, &many)?;
+    check_framed(&rt, alloc, &many, NO_ROUTE)?;
     let body = repeated(alloc, b"y", 262_144)?;
     let big = joined(
         alloc,
         &[b"GET / HTTP/1.1\r\nContent-Length: 262144\r\n\r\n", &body],
     )?;
-    check_framed(&rt, alloc, &big)?;
+    check_framed(&rt, alloc, &big, NO_ROUTE)?;
     Ok(())
 }
 
@@ -197,15 +234,14 @@ fn ends_at_failing_calls(rt: HostRuntime) -> Result<(), Fail> {
         assert_eq!(rt; one.output.len(), 0);
     }
     // the sink fails at each byte of two answers, and nothing is read behind the request that it fails at
-    let stream = b"GET / HTTP/1.1\r\n\r\nGET / HTTP/1.1\r\n\r\n";
-    let answer = not_yet(alloc)?;
+    let stream = joined(alloc, &[NOWHERE, NOWHERE])?;
+    let answer = answer_text(alloc, NO_ROUTE)?;
     let answers = joined(alloc, &[answer.as_bytes(), answer.as_bytes()])?;
-    assert_eq!(rt; answers.len(), 326);
-    for taken in 0..326 {
-        let one = run(alloc, stream, 1, &[], &[taken as u64 + 1])?;
+    for taken in 0..answers.len() {
+        let one = run(alloc, &stream, 1, &[], &[taken as u64 + 1])?;
         assert_eq!(rt; one.status, 4);
         assert_eq!(rt; one.output.as_slice(), &answers[..taken]);
-        assert_eq!(rt; one.left, if taken < 163 { 18 } else { 0 });
+        assert_eq!(rt; one.left, if taken < answer.len() { 18 } else { 0 });
     }
     // so it does while the refusal of what is no request is written
     let one = run(alloc, b"\r\n", 1, &[], &[5])?;
@@ -225,17 +261,21 @@ fn takes_batch_alone(rt: HostRuntime) -> Result<(), Fail> {
         &["batch", ""],
     ];
     for words in faulty {
-        let mut source = MemSource::new(
-            b"GET / HTTP/1.1\r\n\r\n".to_vec(alloc)?,
-            9,
-            Vec::new(alloc),
-        );
+        let mut source = MemSource::new(NOWHERE.to_vec(alloc)?, 9, Vec::new(alloc));
         let mut sink = MemSink::new(alloc, 9, Vec::new(alloc));
         let mut link = ScriptLink::new(alloc, Vec::new(alloc));
-        assert_eq!(rt;
-            run_words(alloc, words, &mut source, &mut sink, &mut link),
-            2
+        let mut zones = MapZones::new(Vec::new(alloc), Vec::new(alloc));
+        let mut picker = ListPicker::new(Vec::new(alloc));
+        let status = run_words(
+            alloc,
+            words,
+            &mut source,
+            &mut sink,
+            &mut zones,
+            &mut picker,
+            &mut link,
         );
+        assert_eq!(rt; status, 2);
         assert_eq!(rt; source.len(), 18);
         assert_eq!(rt; sink.as_bytes().len(), 0);
     }

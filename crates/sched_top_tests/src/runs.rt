@@ -1,230 +1,235 @@
-//! Creations and sweeps from bytes to bytes, with a link in memory.
-use crate::texts::{Answered, Attempt, Request, answer_text, attempt_text, request_text};
+//! Runs of `batch` over devices in memory, from bytes to bytes. Where memory is wanted the test ends.
+use crate::texts::{answer_text, attempt_text, reply_text, request_text, written_out};
 use http_wire::{MemSink, MemSource};
-use sched_plain::Blob;
+use plain_words::{Blob, ZoneName};
+use policy_rules::ListPicker;
 use sched_top::run_words;
 use std::alloc::{AllocError, Global};
 use std::process::Abort;
-use std::test::Fail;
-use target_link::{Heard, ScriptLink};
+use target_link::{Heard, ScriptLink, Sent};
+use zone_occ::{MapZones, NamedZone};
 
-/// A schedule of one occurrence, at 1000, is created at 900.
-const CREATE: Request = Request::Creation {
-    path: "/schedules/once",
-    line: "X-Moment: 900\r\n",
-    members: "",
-    port: 9000,
+/// What stands outside of a run.
+#[derive(Clone, Copy)]
+pub struct Outside {
+    /// The words that the picker gives.
+    pub words: &'static [u64],
+    /// The statuses that the targets reply, one an attempt, a blank between two; `-` where the connection is lost, as it
+    /// is behind the last one.
+    pub replies: &'static str,
+    /// The zones, one a line, a name and its bytes behind a blank.
+    pub zones: &'static str,
+    /// The numbers of the calls that ask for a zone and fail, counted from 1.
+    pub failing: &'static [u64],
+}
+
+/// Nothing: no word, no reply, no zone.
+pub const NOTHING: Outside = Outside {
+    words: &[],
+    replies: "",
+    zones: "",
+    failing: &[],
 };
 
-/// A member more than is served.
-const DESCRIBED: Request = Request::Creation {
-    path: "/schedules/once",
-    line: "X-Moment: 900\r\n",
-    members: "\"Description\":\"x\",",
-    port: 9000,
+/// One attempt is answered with 200, and every other one lost.
+pub const REPLIED: Outside = Outside {
+    replies: "200",
+    ..NOTHING
 };
 
-/// The creation at no moment, with a query.
-const QUERIED: Request = Request::Creation {
-    path: "/schedules/once?a=b",
-    line: "",
-    members: "",
-    port: 9000,
-};
-
-/// The creation with a moment of ten digits.
-const LEADING_ZEROS: Request = Request::Creation {
-    path: "/schedules/once",
-    line: "X-Moment: 0000000900\r\n",
-    members: "",
-    port: 9000,
-};
-
-/// A schedule in another shard, at another port.
-const SECOND: Request = Request::Creation {
-    path: "/schedules/twice",
-    line: "X-Moment: 900\r\n",
-    members: "",
-    port: 9001,
-};
-
-/// A sweep at the occurrence's moment.
-const SWEEP: Request = Request::Sweep(1000);
-
-/// A sweep before the moment of the history.
-const EARLY_SWEEP: Request = Request::Sweep(10);
-
-/// A sweep when the occurrence is older than a day.
-const LATE_SWEEP: Request = Request::Sweep(87401);
-
-/// The answer to the creation.
-const CREATED: Answered = Answered::Created("once", 2);
-
-/// The first schedule's one attempt.
-const ATTEMPT: Attempt = Attempt {
-    name: "once",
-    incarnation: 1,
-    port: 9000,
-};
-
-/// The second schedule's one attempt.
-const SECOND_ATTEMPT: Attempt = Attempt {
-    name: "twice",
-    incarnation: 2,
-    port: 9001,
-};
-
-/// The reply of a target that is content.
-const CONTENT: &[u8] = b"HTTP/1.1 200 OK\r\n\r\n";
-
-/// What a run gave.
+/// What a run gave: its status, the bytes that it wrote, what was sent, and how many words were drawn.
 #[derive(Drop)]
-struct Outcome {
-    status: u8,
-    output: Vec<u8>,
-    link: ScriptLink,
+pub struct Outcome {
+    pub status: u8,
+    pub output: Vec<u8>,
+    pub link: ScriptLink,
+    pub drawn: u64,
 }
 
-/// The replies of a link that gives so many, each content, and loses the other requests.
-fn replies_of(alloc: Global, replies: usize) -> Result<Vec<Heard>, AllocError> {
-    let mut answers = Vec::new(alloc);
-    for _ in 0..replies {
-        answers.push(Heard::Reply(Blob::from_vec(CONTENT.to_vec(alloc)?)))?;
+/// What comes back for one attempt.
+fn heard_of(alloc: Global, status: &str) -> Result<Heard, AllocError> {
+    if status == "-" {
+        return Ok(Heard::Loss);
     }
-    Ok(answers)
+    let reply = reply_text(alloc, status)?;
+    Ok(Heard::Reply(Blob::from_vec(reply.as_bytes().to_vec(alloc)?)))
 }
 
-/// The texts of these requests.
-fn input_of(alloc: Global, requests: &[Request]) -> Result<Vec<u8>, AllocError> {
-    let mut input = Vec::new(alloc);
-    for request in requests {
-        input.extend_from_slice(request_text(alloc, *request)?.as_bytes())?;
+/// A link that brings these replies.
+fn link_of(alloc: Global, replies: &str) -> Result<ScriptLink, AllocError> {
+    let mut script = Vec::new(alloc);
+    for status in replies.split_whitespace() {
+        script.push(heard_of(alloc, status)?)?;
     }
-    Ok(input)
+    Ok(ScriptLink::new(alloc, script))
 }
 
-/// The texts of these answers.
-fn output_of(alloc: Global, answers: &[Answered]) -> Result<Vec<u8>, AllocError> {
-    let mut output = Vec::new(alloc);
-    for answer in answers {
-        output.extend_from_slice(answer_text(alloc, *answer)?.as_bytes())?;
+/// A zone of this name with these bytes.
+pub fn named_zone(rt: &impl Abort, alloc: Global, name: &str, bytes: Vec<u8>) -> NamedZone {
+    NamedZone {
+        name: ZoneName::read(alloc, name.as_bytes()).expect(rt, "the name of a zone"),
+        bytes: Blob::from_vec(bytes),
     }
-    Ok(output)
 }
 
-/// Runs `batch` over these requests; the link gives so many replies.
-fn run(alloc: Global, requests: &[Request], replies: usize) -> Result<Outcome, AllocError> {
-    let mut link = ScriptLink::new(alloc, replies_of(alloc, replies)?);
-    let mut source = MemSource::new(input_of(alloc, requests)?, 1_000_000, Vec::new(alloc));
+/// The zone that a line names.
+fn zone_of(rt: &impl Abort, alloc: Global, line: &str) -> Result<NamedZone, AllocError> {
+    let (name, bytes) = line.split_once(" ").unwrap_or((line, ""));
+    Ok(named_zone(rt, alloc, name, bytes.as_bytes().to_vec(alloc)?))
+}
+
+/// The zones that lines name; the calls of these numbers fail.
+fn zones_of(
+    rt: &impl Abort,
+    alloc: Global,
+    lines: &str,
+    failing: &[u64],
+) -> Result<MapZones, AllocError> {
+    let mut zones = Vec::new(alloc);
+    for line in lines.lines() {
+        zones.push(zone_of(rt, alloc, line)?)?;
+    }
+    Ok(MapZones::new(zones, failing.to_vec(alloc)?))
+}
+
+/// Runs `batch` over this input.
+pub fn run(
+    alloc: Global,
+    input: Vec<u8>,
+    mut zones: MapZones,
+    mut picker: ListPicker,
+    mut link: ScriptLink,
+) -> Result<Outcome, AllocError> {
+    let mut source = MemSource::new(input, 1_000_000, Vec::new(alloc));
     let mut sink = MemSink::new(alloc, 1_000_000, Vec::new(alloc));
-    let status = run_words(alloc, &["batch"], &mut source, &mut sink, &mut link);
+    let status = run_words(
+        alloc,
+        &["batch"],
+        &mut source,
+        &mut sink,
+        &mut zones,
+        &mut picker,
+        &mut link,
+    );
     Ok(Outcome {
         status,
         output: sink.as_bytes().to_vec(alloc)?,
+        drawn: picker.given(),
         link,
     })
 }
 
-/// These requests get these answers, and the link is handed these attempts, each at its port; so many of them get a
-/// reply.
-fn check(
+/// The texts of the requests of a table, and of their answers.
+#[derive(Drop)]
+pub struct Exchange {
+    pub input: Vec<u8>,
+    pub output: Vec<u8>,
+}
+
+impl Exchange {
+    /// No request and no answer.
+    pub fn new(alloc: Global) -> Exchange {
+        Exchange {
+            input: Vec::new(alloc),
+            output: Vec::new(alloc),
+        }
+    }
+}
+
+/// Adds the text of the request that a line says.
+pub fn add_request(alloc: Global, exchange: &mut Exchange, line: &str) -> Result<(), AllocError> {
+    let text = request_text(alloc, line)?;
+    exchange.input.extend_from_slice(text.as_bytes())
+}
+
+/// Adds the text of the answer that a line says.
+pub fn add_answer(alloc: Global, exchange: &mut Exchange, line: &str) -> Result<(), AllocError> {
+    let text = answer_text(alloc, line)?;
+    exchange.output.extend_from_slice(text.as_bytes())
+}
+
+/// Adds what a line says: an answer begins with four blanks.
+fn add_line(alloc: Global, exchange: &mut Exchange, line: &str) -> Result<(), AllocError> {
+    match line.strip_prefix("    ") {
+        Some(answer) => add_answer(alloc, exchange, answer),
+        None => add_request(alloc, exchange, line),
+    }
+}
+
+/// What a table says. Its lines are requests, and below each, behind four blanks, its answer.
+pub fn exchange_of(alloc: Global, table: &str) -> Result<Exchange, AllocError> {
+    let mut exchange = Exchange::new(alloc);
+    let table = written_out(alloc, table)?;
+    for line in table.lines() {
+        add_line(alloc, &mut exchange, line)?;
+    }
+    Ok(exchange)
+}
+
+/// The bytes as text.
+fn text_of(bytes: &[u8]) -> &str {
+    str::from_utf8(bytes).unwrap_or("no text")
+}
+
+/// What was sent is these attempts, one a line.
+pub fn check_sent(
     rt: &impl Abort,
     alloc: Global,
-    requests: &[Request],
-    replies: usize,
-    answers: &[Answered],
-    attempts: &[Attempt],
+    sent: &[Sent],
+    attempts: &str,
 ) -> Result<(), AllocError> {
-    let outcome = run(alloc, requests, replies)?;
+    assert_eq!(rt; sent.len(), attempts.lines().count());
+    for (one, attempt) in sent.iter().zip(attempts.lines()) {
+        let wanted = attempt_text(alloc, attempt)?;
+        assert_eq!(rt; text_of(one.request.as_bytes()), wanted.as_str());
+        assert_eq!(rt; one.to.port, 9000);
+    }
+    Ok(())
+}
+
+/// The input gets this output, over these zones, these words and these replies.
+pub fn answered(
+    rt: &impl Abort,
+    alloc: Global,
+    exchange: Exchange,
+    zones: MapZones,
+    picker: ListPicker,
+    link: ScriptLink,
+) -> Result<Outcome, AllocError> {
+    let Exchange { input, output } = exchange;
+    let outcome = run(alloc, input, zones, picker, link)?;
+    assert_eq!(rt;
+        text_of(outcome.output.as_slice()),
+        text_of(output.as_slice())
+    );
     assert_eq!(rt; outcome.status, 0);
-    let expected = output_of(alloc, answers)?;
-    assert_eq!(rt; outcome.output.as_slice(), expected.as_slice());
-    let sent = outcome.link.sent();
-    assert_eq!(rt; sent.len(), attempts.len());
-    for (one, attempt) in sent.iter().zip(attempts.iter()) {
-        let text = attempt_text(alloc, *attempt)?;
-        assert_eq!(rt; one.request.as_bytes(), text.as_bytes());
-        assert_eq!(rt; one.to.port, attempt.port);
-    }
-    Ok(())
+    Ok(outcome)
 }
 
-#[test]
-fn a_schedule_is_created(rt: HostRuntime) -> Result<(), Fail> {
-    let alloc = rt.alloc();
-    for request in [CREATE, QUERIED, LEADING_ZEROS] {
-        check(&rt, alloc, &[request], 0, &[CREATED], &[])?;
-    }
-    check(&rt, alloc, &[DESCRIBED], 0, &[Answered::NotYet(1)], &[])?;
-    let answers = [CREATED, Answered::Conflict("once", 2)];
-    check(&rt, alloc, &[CREATE, CREATE], 0, &answers, &[])?;
-    Ok(())
+/// The same with this outside; these attempts are sent, and each word that the picker has is drawn.
+pub fn check_exchange(
+    rt: &impl Abort,
+    alloc: Global,
+    outside: Outside,
+    exchange: Exchange,
+    attempts: &str,
+) -> Result<(), AllocError> {
+    let zones = zones_of(rt, alloc, outside.zones, outside.failing)?;
+    let picker = ListPicker::new(outside.words.to_vec(alloc)?);
+    let link = link_of(alloc, outside.replies)?;
+    let outcome = answered(rt, alloc, exchange, zones, picker, link)?;
+    assert_eq!(rt; outcome.drawn, outside.words.len() as u64);
+    check_sent(rt, alloc, outcome.link.sent(), attempts)
 }
 
-#[test]
-fn a_schedule_is_sent_once(rt: HostRuntime) -> Result<(), Fail> {
-    let requests = [CREATE, SWEEP, SWEEP];
-    let answers = [
-        CREATED,
-        Answered::Settled(1000, 29),
-        Answered::Settled(1000, 53),
-    ];
-    check(&rt, rt.alloc(), &requests, 1, &answers, &[ATTEMPT])?;
-    Ok(())
-}
-
-#[test]
-fn a_lost_attempt_is_closed(rt: HostRuntime) -> Result<(), Fail> {
-    let requests = [CREATE, SWEEP, CREATE];
-    let answers = [
-        CREATED,
-        Answered::Settled(1000, 30),
-        Answered::Conflict("once", 30),
-    ];
-    check(&rt, rt.alloc(), &requests, 0, &answers, &[ATTEMPT])?;
-    Ok(())
-}
-
-#[test]
-fn an_old_occurrence_is_closed_unsent(rt: HostRuntime) -> Result<(), Fail> {
-    let answers = [CREATED, Answered::Settled(87401, 28)];
-    check(&rt, rt.alloc(), &[CREATE, LATE_SWEEP], 1, &answers, &[])?;
-    Ok(())
-}
-
-#[test]
-fn sweeps_over_nothing_add_their_steps(rt: HostRuntime) -> Result<(), Fail> {
-    let answers = [
-        Answered::Settled(1000, 25),
-        Answered::Settled(1000, 49),
-        Answered::Settled(1000, 73),
-    ];
-    check(
-        &rt,
-        rt.alloc(),
-        &[SWEEP, SWEEP, EARLY_SWEEP],
-        0,
-        &answers,
-        &[],
-    )?;
-    Ok(())
-}
-
-#[test]
-fn each_schedule_is_sent_to_its_own_target(rt: HostRuntime) -> Result<(), Fail> {
-    let answers = [
-        CREATED,
-        Answered::Created("twice", 3),
-        Answered::Settled(1000, 33),
-    ];
-    let attempts = [ATTEMPT, SECOND_ATTEMPT];
-    check(
-        &rt,
-        rt.alloc(),
-        &[CREATE, SECOND, SWEEP],
-        2,
-        &answers,
-        &attempts,
-    )?;
-    Ok(())
+/// The same of the requests of a table and its answers.
+pub fn check(
+    rt: &impl Abort,
+    alloc: Global,
+    outside: Outside,
+    table: &str,
+    attempts: &str,
+) -> Result<(), AllocError> {
+    let exchange = exchange_of(alloc, table)?;
+    check_exchange(rt, alloc, outside, exchange, attempts)
 }

@@ -15,6 +15,18 @@ Carries {K} stood stands P = (since : Start K) (h : History) → stood since h �
 abbrev pub CarriesTo : {K : Type 0} → (Start K → History → Type 0) → (Start K → History → Type 0) → (History → History) → Type 0
 CarriesTo {K} stood stands f = (since : Start K) (h : History) → stood since h → stands since (f h)
 
+-- the same of those histories alone of which something was so before
+abbrev pub CarriesWhere : {K : Type 0} → (History → Type 0) → (Start K → History → Type 0) → (Start K → History → Type 0) → (History → History → Type 0) → Type 0
+CarriesWhere {K} Where stood stands P = (since : Start K) (h : History) → stood since h → Where h → (after : History) × stands since after × P h after
+
+-- a keeper stands for some history
+abbrev pub Lives : {K : Type 0} → (Start K → History → Type 0) → Type 0
+Lives {K} stands = (since : Start K) × (h : History) × stands since h
+
+-- and for one of which something is so
+abbrev pub LivesWhere : {K : Type 0} → (History → Type 0) → (Start K → History → Type 0) → Type 0
+LivesWhere {K} Where stands = (since : Start K) × (h : History) × stands since h × Where h
+
 -- of each history that a keeper stands for, something is so
 abbrev pub Shows : {K : Type 0} → (Start K → History → Type 0) → (History → Type 0) → Type 0
 Shows {K} stands P = (since : Start K) (h : History) → stands since h → P h

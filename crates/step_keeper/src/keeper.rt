@@ -1,4 +1,4 @@
-ghost use Rattle.std.specs.Prelude.{◌≡◌, ◌≤◌, ℕ, OnOk, OnErr, IfErr};
+ghost use Rattle.std.specs.Prelude.{◌≡◌, ◌≤◌, ℕ, None, OnOk, OnErr, IfErr};
 ghost use Rattle.std.specs.Prelude.{Option as Perhaps};
 ghost use Rattle.outside.specs.Faults.{Rose};
 ghost use Rattle.sched_plain.specs.declared.step.Step.{Step};
@@ -85,6 +85,9 @@ pub trait Keeper {
 
     /// What stands for a history without a doubt stands for it.
     ghost holds: { (k : Self) (since : Start Self) (h : History) → stands k since h → held k since h };
+
+    /// Where it stands for a history without a doubt no step is in doubt.
+    ghost settled: { (k : Self) (since : Start Self) (h : History) → stands k since h → doubt k ≡ None };
 
     /// No history that it stands for is later than its moment.
     ghost early: { (k : Self) (since : Start Self) (h : History) → held k since h → moment h ≤ latest k };

@@ -29,7 +29,7 @@ impl<M: Machine> MemoryKeeper<M> {
 }
 
 impl<M: Machine> Keeper for MemoryKeeper<M> {
-    ghost use Rattle.std.specs.Prelude.{ℕ, None, ◌≤◌};
+    ghost use Rattle.std.specs.Prelude.{ℕ, None, ◌≤◌, refl};
     ghost use Rattle.step_keeper.specs.Carrying.{Start};
     ghost use Rattle.sched_plain.specs.Moments.{moment};
 
@@ -72,6 +72,8 @@ impl<M: Machine> Keeper for MemoryKeeper<M> {
     }
 
     ghost holds = { λ keeper since h stands. stands };
+
+    ghost settled = { λ keeper since h stands. refl };
 
     ghost early = { λ keeper since h stands. stands.1 };
 }

@@ -36,7 +36,7 @@ fewer_left c h inc t instant words open_ =
     omega (arith, left, here, many, as_many, some)
 
 -- and of another nothing more
-no_more : (b : Bool) (old new : List Pair) (xs : List ℕ) → length (without_pair (if b then old ++ new else old) xs) ≤ length (without_pair old xs)
+pub no_more : (b : Bool) (old new : List Pair) (xs : List ℕ) → length (without_pair (if b then old ++ new else old) xs) ≤ length (without_pair old xs)
 no_more true old new xs =
     let same = ap (λ (l : List ℕ). length l) (without_more old new xs) in
     let fewer = few_passing (λ i. not (is_paired new i)) (without_pair old xs) in

@@ -269,7 +269,7 @@ zoned_good c source t h write named zone (Some bytes) good valid is needed had =
     (good.late, zone_named write zone valid (is ∙ ap (λ (z : List ℕ). Some z) needed.same), leb-true (length bytes) LONGEST_ZONE (and_second (c.readable bytes) (nat_le (length bytes) LONGEST_ZONE) readable))
     refl
 
-with_zone_good : (c : Calendar) (source : ZoneSource) (t : ℕ) (h : History) (write : Write) (named : Option (List ℕ)) (needed : Option (List ℕ)) → IsGood c h t → IsWrite write
+pub with_zone_good : (c : Calendar) (source : ZoneSource) (t : ℕ) (h : History) (write : Write) (named : Option (List ℕ)) (needed : Option (List ℕ)) → IsGood c h t → IsWrite write
     → zone_of write ≡ named → option_and_then (needs h) named ≡ needed → lacks_zone c source needed ≡ false → IsGood c (with_zone source t needed h) t
 with_zone_good c source t h write named None good valid is e had = good
 with_zone_good c source t h write None (Some zone) good valid is e had = absurd cc

@@ -1,17 +1,17 @@
-mod Found
-mod Follow
-mod Rest
-mod Sums
-mod Drops
-mod Entering
-mod Completing
-mod Limits
-mod Valid
-mod Kept
-mod OneWay
-mod Small
-mod Words
-mod Catching
-mod WorkedOut
-mod Holders
-mod Additions
+pub mod Found
+pub mod Follow
+pub mod Rest
+pub mod Sums
+pub mod Drops
+pub mod Entering
+pub mod Completing
+pub mod Limits
+pub mod Valid
+pub mod Kept
+pub mod OneWay
+pub mod Small
+pub mod Words
+pub mod Catching
+pub mod WorkedOut
+pub mod Holders
+pub mod Additions

@@ -100,7 +100,7 @@ unfolding occ_below
 occ_early c all t =
     All-weaker (λ x. x < t + 1) (λ x. x ≤ t) (λ x lt. omega (arith, lt)) (passing (occurs_in c all) (t + 1)) (passing_below (occurs_in c all) (t + 1))
 
-unentered_early : (c : Calendar) (h : History) (inc t : ℕ) → All (λ x. x ≤ t) (unentered c h inc t)
+pub unentered_early : (c : Calendar) (h : History) (inc t : ℕ) → All (λ x. x ≤ t) (unentered c h inc t)
 unentered_early c h inc t =
     All-filter _ (λ x. x ≤ t) (filter (nat_le (above_floor h inc)) (occ_below c (items h inc) (t + 1)))
     (All-filter (nat_le (above_floor h inc)) (λ x. x ≤ t) (occ_below c (items h inc) (t + 1)) (occ_early c (items h inc) t))

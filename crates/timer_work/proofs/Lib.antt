@@ -1,17 +1,11 @@
-mod LeadLemmas
 pub mod SendLemmas
+pub mod GivenLemmas
+mod LeadLemmas
 mod FitLemmas
+mod ActLemmas
 mod WentLemmas
-mod AttemptLemmas
 mod StepLemmas
-mod Loads
-mod EnterLoads
-mod LiveLemmas
-mod Finishing
+mod AttemptLemmas
 mod WholeLemmas
-mod Lawful
-mod Single
-mod LawfulSweeps
-mod Following
-mod Bounds
-mod Lessening
+mod EnterLemmas
+mod OfferLemmas

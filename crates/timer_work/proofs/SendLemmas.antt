@@ -11,7 +11,7 @@ use Rattle.plain_words.proofs.ListLemmas.{nth_more, nth_snoc}
 use Rattle.sched_plain.specs.History.{History, beginning, based, ◌upon◌}
 use Rattle.target_link.specs.declared.link.Sent.{Sent}
 use Rattle.timer_work.specs.Sendings.{Request, Reported, AttemptSent, EndsAs, EndsHeard, request_for, requests_of, request_sent, sent_for}
-use Rattle.timer_work.specs.Sweeping.{Sends}
+use Rattle.timer_work.specs.Swept.{Sends}
 
 -- what is told stays where nothing is sent
 pub told_same : (told : Option (List Sent)) → told ≡ option_map (λ (before : List Sent). before ++ []) told
@@ -21,7 +21,7 @@ told_same (Some before) = ap Some (sym (append-nil before))
 -- nothing is sent, and nothing is wanted
 pub sends_nothing : (h after : History) (told : Option (List Sent)) → ((sent : List Sent) → Reported h sent → Reported after sent) → Sends h after told told
 sends_nothing h after told keeps = record {
-  sent = [];
+  more = [];
   added = told_same told;
   reported = λ before r. subst (Reported after) (sym (append-nil before)) (keeps before r);
 }
@@ -34,9 +34,9 @@ told_on (Some before) one two = ap Some (append_assoc before one two)
 -- what is sent behind what was sent
 pub sends_on : (h mid after : History) (told told1 told2 : Option (List Sent)) → Sends h mid told told1 → Sends mid after told1 told2 → Sends h after told told2
 sends_on h mid after told told1 told2 a b = record {
-  sent = a.sent ++ b.sent;
-  added = b.added ∙ ap (option_map (λ (before : List Sent). before ++ b.sent)) a.added ∙ told_on told a.sent b.sent;
-  reported = λ before r. subst (Reported after) (append_assoc before a.sent b.sent) (b.reported (before ++ a.sent) (a.reported before r));
+  more = a.more ++ b.more;
+  added = b.added ∙ ap (option_map (λ (before : List Sent). before ++ b.more)) a.added ∙ told_on told a.more b.more;
+  reported = λ before r. subst (Reported after) (append_assoc before a.more b.more) (b.reported (before ++ a.more) (a.reported before r));
 }
 
 either_more : {A : Type 0} (b : Bool) (one other one' other' : Option A) (x : A) → (one ≡ Some x → one' ≡ Some x) → (other ≡ Some x → other' ≡ Some x)
@@ -114,7 +114,7 @@ pub sends_begin : (h : History) (at : Moment) (inc instant number epoch : ℕ) (
     → AttemptSent (request_for h inc instant number) told told' verdict status → Sends h (steps.Begin at inc instant number epoch upon h) told told'
 sends_begin h at inc instant number epoch told told' verdict status p =
     let request = request_for h inc instant number in record {
-      sent = sent_of request told told' verdict status p;
+      more = sent_of request told told' verdict status p;
       added = sent_told request told told' verdict status p;
       reported = λ before r. begun_reported h at inc instant number epoch _ before (sent_is request told told' verdict status p) r;
     }
@@ -140,7 +140,7 @@ pub sends_end : (h : History) (at : Moment) (inc instant number epoch : ℕ) (to
     → Sends h (steps.End at inc instant number verdict status upon steps.Begin at inc instant number epoch upon h) told told'
 sends_end h at inc instant number epoch told told' verdict status p =
     let request = request_for h inc instant number in record {
-      sent = sent_of request told told' verdict status p;
+      more = sent_of request told told' verdict status p;
       added = sent_told request told told' verdict status p;
       reported = λ before r.
           let begun = begun_reported h at inc instant number epoch _ before (sent_is request told told' verdict status p) r in

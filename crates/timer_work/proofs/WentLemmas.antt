@@ -1,69 +1,118 @@
--- A sweep goes on, step by step and one part behind the other.
-use Rattle.std.proofs.Common.{◌≡◌, ℕ, ◌≤◌, Option, Result, Ok, Err, List, sym, subst, arith}
-use Rattle.std.specs.Prelude.{OnErr}
+-- A sweep goes on one part behind the other, and stops.
+use Rattle.std.proofs.Common.{◌≡◌, ℕ, ◌+◌, ◌≤◌, List, [], ◌++◌, sym, subst, arith, append_assoc}
+use Rattle.std.proofs.lemmas.List.{append-nil}
+use Rattle.policy_rules.specs.Given.{Gives}
 use Rattle.sched_plain.specs.declared.step.Step.{Step}
-use Rattle.sched_plain.specs.History.{History, ◌upon◌}
-use Rattle.sched_plain.specs.Moments.{moment, at_of}
-use Rattle.sched_plain.specs.declared.work.Work.{Work}
-use Rattle.target_link.specs.declared.link.Sent.{Sent}
-use Rattle.timer_work.specs.Parts.{Keeps, IsNext, StopsAtWork}
-use Rattle.timer_work.specs.Sweeping.{Place, AtWork, Leads, Sends, Fit, Went, Stopped}
+use Rattle.sched_plain.specs.History.{History}
+use Rattle.sweep_laws.specs.LoadLaws.{load}
+use Rattle.book_parts.specs.Stands.{calendar}
+use Rattle.durable_book.specs.declared.grow_fault.GrowFault.{GrowFault}
+use Rattle.timer_work.specs.Swept.{IsCauseOfStop}
+use Rattle.timer_work.specs.Going.{Outside, Went, Stopped, Lessened}
+use Rattle.timer_work.specs.Places.{Place, Before, AtWork, Fit, IsUnfinished}
 use Rattle.timer_work.proofs.LeadLemmas.{leads_nowhere, leads_on}
 use Rattle.timer_work.proofs.SendLemmas.{sends_nothing, sends_on}
+use Rattle.timer_work.proofs.GivenLemmas.{gives_nothing, gives_on}
 
 -- nowhere yet
-unfoldable pub went_nowhere : (Stands : History → Type 0) (t : ℕ) (p : Place) (h : History) (told : Option (List Sent)) → Stands h → Fit t p h → Went Stands t p h told p told
-went_nowhere Stands t p h told stands fit = record {
+unfoldable pub went_nowhere : (Stands : History → Type 0) (t : ℕ) (p : Place) (h : History) (o : Outside) → Stands h → Fit t p h → Went Stands t p h o p o
+unfolding leads_nowhere
+went_nowhere Stands t p h o stands fit = record {
   after = h;
   stands = stands;
   leads = leads_nowhere t p h;
-  sends = sends_nothing h h told (λ sent r. r);
+  gives = gives_nothing o.words;
+  sends = sends_nothing h h o.sent (λ sent r. r);
   fit = fit;
-  later = omega arith;
 }
 
 -- on from where it came to
-unfoldable pub went_on : (One Two : History → Type 0) (t : ℕ) (p : Place) (h : History) (told : Option (List Sent)) (q : Place) (told1 : Option (List Sent)) (r : Place) (told2 : Option (List Sent))
-    → (w : Went One t p h told q told1) → Went Two t q w.after told1 r told2 → Went Two t p h told r told2
-went_on One Two t p h told q told1 r told2 w v = record {
+unfoldable pub went_on : (One Two : History → Type 0) (t : ℕ) (p : Place) (h : History) (old : Outside) (q : Place) (mid : Outside) (r : Place) (new : Outside)
+    → (w : Went One t p h old q mid) → Went Two t q w.after mid r new → Went Two t p h old r new
+unfolding leads_on
+went_on One Two t p h old q mid r new w v = record {
   after = v.after;
   stands = v.stands;
   leads = leads_on t p h q w.after r v.after w.leads v.leads;
-  sends = sends_on h w.after v.after told told1 told2 w.sends v.sends;
+  gives = gives_on old.words mid.words new.words w.leads.words v.leads.words w.gives v.gives;
+  sends = sends_on h w.after v.after old.sent mid.sent new.sent w.sends v.sends;
   fit = v.fit;
-  later = let a = w.later in let b = v.later in omega arith;
 }
 
 -- and then it stopped
-pub stopped_on : (One Two : History → Type 0) (t : ℕ) (p : Place) (h : History) (told : Option (List Sent)) (q : Place) (told1 told2 : Option (List Sent))
-    → (w : Went One t p h told q told1) → Stopped Two t q w.after told1 told2 → Stopped Two t p h told told2
-stopped_on One Two t p h told q told1 told2 w s = record {
+pub stopped_on : (One Two : History → Type 0) (full : Step → ℕ → ℕ → Type 0) (fault : GrowFault) (t : ℕ) (p : Place) (h : History) (old : Outside) (q : Place) (mid new : Outside)
+    → (w : Went One t p h old q mid) → Stopped Two full fault t q w.after mid new → Stopped Two full fault t p h old new
+unfolding leads_on
+stopped_on One Two full fault t p h old q mid new w s = record {
   place = s.place;
-  went = went_on One Two t p h told q told1 s.place told2 w s.went;
+  after = s.after;
+  stands = s.stands;
+  leads = leads_on t p h q w.after s.place s.after w.leads s.leads;
+  dropped = s.dropped;
+  few = s.few;
+  gives = subst (λ (ws : List ℕ). Gives old.words ws new.words) (sym (append_assoc w.leads.words s.leads.words s.dropped))
+      (gives_on old.words mid.words new.words w.leads.words (s.leads.words ++ s.dropped) w.gives s.gives);
+  sends = sends_on h w.after s.after old.sent mid.sent new.sent w.sends s.sends;
+  fit = s.fit;
+  unfinished = s.unfinished;
+  cause = s.cause;
+}
+
+-- a sweep that went to a place stopped there
+pub stopped_there : (Stands Held : History → Type 0) (full : Step → ℕ → ℕ → Type 0) (fault : GrowFault) (t : ℕ) (p : Place) (h : History) (old : Outside) (q : Place) (new : Outside)
+    → (w : Went Stands t p h old q new) → Held w.after → IsUnfinished q → IsCauseOfStop full fault w.after → Stopped Held full fault t p h old new
+stopped_there Stands Held full fault t p h old q new w held unfinished cause = record {
+  place = q;
+  after = w.after;
+  stands = held;
+  leads = w.leads;
+  dropped = [];
+  few = omega arith;
+  gives = subst (λ (ws : List ℕ). Gives old.words ws new.words) (sym (append-nil w.leads.words)) w.gives;
+  sends = w.sends;
+  fit = w.fit;
+  unfinished = unfinished;
+  cause = cause;
 }
 
 -- it stopped where it was
-pub stopped_here : (Stands : History → Type 0) (t : ℕ) (p : Place) (h : History) (told : Option (List Sent)) → Stands h → Fit t p h → Stopped Stands t p h told told
-stopped_here Stands t p h told stands fit = record { place = p; went = went_nowhere Stands t p h told stands fit }
-
--- one step on, with which nothing is sent
-pub went_step : (Stands : History → Type 0) (t : ℕ) (p : Place) (h : History) (told : Option (List Sent)) (q : Place) (s : Step)
-    → Stands (s upon h) → Leads t p h q (s upon h) → Sends h (s upon h) told told → Fit t q (s upon h) → moment h ≤ at_of s → Went Stands t p h told q told
-went_step Stands t p h told q s stands leads sends fit later = record {
-  after = s upon h;
-  stands = stands;
-  leads = leads;
-  sends = sends;
+pub stopped_here : (Held : History → Type 0) (full : Step → ℕ → ℕ → Type 0) (fault : GrowFault) (t : ℕ) (p : Place) (h : History) (o : Outside)
+    → Held h → Fit t p h → IsUnfinished p → IsCauseOfStop full fault h → Stopped Held full fault t p h o o
+unfolding leads_nowhere
+stopped_here Held full fault t p h o held fit unfinished cause = record {
+  place = p;
+  after = h;
+  stands = held;
+  leads = leads_nowhere t p h;
+  dropped = [];
+  few = omega arith;
+  gives = gives_nothing o.words;
+  sends = sends_nothing h h o.sent (λ sent r. r);
   fit = fit;
-  later = later;
+  unfinished = unfinished;
+  cause = cause;
 }
 
--- it stopped where it was, and the link tells what it told
-pub stopped_told : (Stands : History → Type 0) (t : ℕ) (p : Place) (h : History) (told told' : Option (List Sent)) → told' ≡ told → Stands h → Fit t p h → Stopped Stands t p h told told'
-stopped_told Stands t p h told told' e stands fit = subst (λ (o : Option (List Sent)). Stopped Stands t p h told o) (sym e) (stopped_here Stands t p h told stands fit)
+-- after so many works, as many at least are done of what a shard had
+pub record Worked (Stands : History → Type 0) (t shard worked : ℕ) (shards : List ℕ) (h : History) (old new : Outside) : Type 0 where
+  pub went : Went Stands t (AtWork shard shards) h old (AtWork shard shards) new
+  pub less : load calendar went.after shard t + worked ≤ load calendar h shard t
 
--- where a call failed and the history stays, the sweep stopped where it was
-pub err_stops : {T E : Type 0} (r : Result T E) (Old New : History → Type 0) (t : ℕ) (told : Option (List Sent)) (next : Work)
-    → OnErr r (Keeps Old New) → OnErr r ((shard : ℕ) (shards : List ℕ) → StopsAtWork Old New t shard shards (IsNext t shard next) told told)
-err_stops (Ok x) Old New t told next stays = stays
-err_stops (Err e) Old New t told next stays = λ shard shards h st fit w. stopped_here New t (AtWork shard shards) h told (stays h st) fit
+pub none_worked : (Stands : History → Type 0) (t shard : ℕ) (shards : List ℕ) (h : History) (o : Outside) → Stands h → Fit t (AtWork shard shards) h
+    → Worked Stands t shard 0 shards h o o
+unfolding went_nowhere
+none_worked Stands t shard shards h o stands fit = record { went = went_nowhere Stands t (AtWork shard shards) h o stands fit; less = omega arith }
+
+pub one_more_worked : (One Two : History → Type 0) (t shard worked : ℕ) (shards : List ℕ) (h : History) (old mid new : Outside)
+    → (w : Worked One t shard worked shards h old mid) → Lessened Two t shard shards w.went.after mid new
+    → Worked Two t shard (worked + 1) shards h old new
+unfolding went_on
+one_more_worked One Two t shard worked shards h old mid new w v =
+    let le = w.less in
+    let less = v.less in
+    record { went = went_on One Two t (AtWork shard shards) h old (AtWork shard shards) mid (AtWork shard shards) new w.went v.went; less = omega (arith, le, less) }
+
+-- before the shards that are left
+pub went_before : (Stands : History → Type 0) (t : ℕ) (p : Place) (h : History) (old : Outside) (shards left : List ℕ) (new : Outside)
+    → shards ≡ left → Went Stands t p h old (Before shards) new → Went Stands t p h old (Before left) new
+went_before Stands t p h old shards left new e w = subst (λ (xs : List ℕ). Went Stands t p h old (Before xs) new) e w

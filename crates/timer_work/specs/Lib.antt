@@ -1,7 +1,7 @@
 pub mod Sendings
+pub mod Swept
 pub mod Numbers
-pub mod Sweeping
-pub mod Loads
-pub mod Offers
-pub mod Parts
 pub mod Ready
+pub mod Places
+pub mod Going
+pub mod Parts

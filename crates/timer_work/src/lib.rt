@@ -1,9 +1,9 @@
-//! Sweeps: worker 0 does the work of every shard over any machine of steps, and sends each attempt by any link.
+//! Sweeps: worker 0 does the work of every shard over whatever keeps steps, and sends each attempt by any link.
 //!
-//! `sweep_all` promises exactly which steps it adds, that they are legal, and which requests the link was handed; where
-//! memory is wanted, which front of these steps it added. `sweeps_are_lawful` is a law of sweeps.
+//! `sweep_all` promises exactly which steps it adds, and which requests the link was handed; where it is cut, that a front of
+//! these steps was added, and why. `post_one` sends one request that is ready.
 #![tactic(auto)]
 
 mod sweep;
 
-pub use sweep::{sweep_all, sweeps_are_lawful};
+pub use sweep::{ReadyRequest, post_one, sweep_all};

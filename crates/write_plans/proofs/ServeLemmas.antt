@@ -142,14 +142,14 @@ had_of bytes_then bytes zone (Some z) e =
     had_if (is_utc z) (same_text z zone) bytes (bytes_then z) z
     (subst (λ (n : List ℕ). same_text z n ≡ true) (named_if (is_utc z) (is_some (bytes_then z)) z zone e) (same_text_self z))
 
-had_after : (h : History) (t : ℕ) (write : Write) (zone bytes : List ℕ) → needed_zone h write ≡ Some zone
+pub had_after : (h : History) (t : ℕ) (write : Write) (zone bytes : List ℕ) → needed_zone h write ≡ Some zone
     → needed_zone (steps.Zone (moment_of t) zone bytes upon h) write ≡ None
 had_after h t write zone bytes e = had_of (bytes_of h) bytes zone (zone_of write) e
 
 not_lacking : (c : Calendar) (source : ZoneSource) (zone bytes : List ℕ) → source zone ≡ Some bytes → is_zone c bytes ≡ true → lacks_zone c source (Some zone) ≡ false
 not_lacking c source zone bytes had is = (λ i. not (some_pass (is_zone c) (had i))) ∙ ap not is
 
-zoned_after : (source : ZoneSource) (t : ℕ) (h : History) (zone bytes : List ℕ) (needed : Option (List ℕ)) → needed ≡ Some zone → source zone ≡ Some bytes
+pub zoned_after : (source : ZoneSource) (t : ℕ) (h : History) (zone bytes : List ℕ) (needed : Option (List ℕ)) → needed ≡ Some zone → source zone ≡ Some bytes
     → with_zone source t needed h ≡ (steps.Zone (moment_of t) zone bytes upon h)
 zoned_after source t h zone bytes needed needs had = (λ i. with_zone source t (needs i) h) ∙ (λ i. zone_step t zone (had i) h)
 

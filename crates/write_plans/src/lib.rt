@@ -15,4 +15,5 @@ mod replying;
 pub use laws::{plans_are_served, plans_say_what_follows};
 pub use plan::Plan;
 pub use planning::plan_write;
+pub use refusals::zone_refusal;
 pub use replying::reply_to;

@@ -1,7 +1,8 @@
-//! The refusals of writes: by a token that another write kept, and by the schedules and groups that are there.
+//! The refusals of writes: by a token that another write kept, by the schedules and groups that are there, and by a zone that
+//! cannot be had.
 ghost use Rattle.std.specs.Prelude.{◌≡◌, IfOk};
 ghost use Rattle.std.specs.Fmt.{decimal};
-ghost use Rattle.sched_calls.specs.Replies.{group_of, named_by, refusal, row_refusal, token_refusal};
+ghost use Rattle.sched_calls.specs.Replies.{group_of, named_by, refusal, row_refusal, token_refusal, zone_refusal};
 
 use crate::naming::{group_text, name_text};
 use sched_calls::Refusal;
@@ -16,6 +17,8 @@ const GROUP_RULE: u8 = 9;
 const SCHEDULE_RULE: u8 = 10;
 /// The rule of how many schedules and groups there may be.
 const COUNT_RULE: u8 = 11;
+/// The rule of the zone of a content.
+const ZONE_RULE: u8 = 12;
 
 /// The refusal of a write whose token another write kept, by the step at a place, counted from 1. An `Err` is want of
 /// memory.
@@ -74,4 +77,15 @@ pub fn row_refusal(alloc: Global, write: &Write, fault: RowFault) -> Result<Refu
         RowFault::Exists => schedule_refusal(alloc, 409, write),
         RowFault::TooMany { count } => count_refusal(alloc, count),
     }
+}
+
+/// The refusal of a write whose zone cannot be had. An `Err` is want of memory.
+pub fn zone_refusal(alloc: Global) -> Result<Refusal, AllocError>
+    ensures { IfOk result (λ refused. refused ≡ zone_refusal) }
+{
+    Ok(Refusal {
+        rule: ZONE_RULE,
+        status: 400,
+        subject: Text::from_string(String::from_str(alloc, "zone")?),
+    })
 }

@@ -1,95 +1,83 @@
-//! Entries without an attempt: entering the occurrences that are wanted, and closing what is exhausted.
-ghost use Rattle.std.specs.Prelude.{◌≡◌, ℕ, ◌≤◌, List, Err, IfOk, OnOk, OnErr, IsTrue};
+//! Entries without an attempt: entering the occurrences that are wanted, and closing what is exhausted; and removing a schedule
+//! that is finished.
+ghost use Rattle.std.specs.Prelude.{ℕ, ◌≤◌, List, IfErr};
 ghost use Rattle.std.specs.Prelude.{Option as Perhaps};
-ghost use Rattle.sched_plain.specs.declared.work.Work.TheVariants.{Enter, Close};
+ghost use Rattle.sched_plain.specs.declared.outcome.Reason.{Reason};
+ghost use Rattle.sched_plain.specs.declared.work.Work.TheVariants.{Enter, Close, Complete};
 ghost use Rattle.target_link.specs.declared.link.Sent.{Sent as Handed};
-ghost use Rattle.timer_work.specs.Offers.{IsEnterable};
-ghost use Rattle.timer_work.specs.Parts.{Keeps, IsNext, Does, NeverWanted};
-ghost use Rattle.timer_work.specs.Sweeping.{at_once};
+ghost use Rattle.durable_book.specs.Acts.{DiskRose};
+ghost use Rattle.durable_book.specs.Faults.{grow_denial};
+ghost use Rattle.timer_work.specs.Going.{Outside, outside};
+ghost use Rattle.timer_work.specs.Parts.{Wants, Handles};
 
-use crate::sweep::steps::{Stop, take};
-use plain_book::Machine;
-use sched_plain::{LAST_MOMENT, MOST_PAIRS, Moment, Pair, Pairs, Reason, Step};
-use std::alloc::{AllocError, Global};
-
-/// Whether an Enter may have these instants.
-fn is_enterable(instants: &[u64]) -> bool
-    ensures sound { IsTrue result → IsEnterable instants.now }
-    ensures whole { IsEnterable instants.now → IsTrue result }
-{
-    !instants.is_empty()
-        && instants.len() <= MOST_PAIRS
-        && instants.iter().all(|instant| *instant <= LAST_MOMENT)
-}
-
-/// The instants, each chosen for its own moment.
-fn at_once(alloc: Global, instants: &[u64]) -> Result<Pairs, AllocError>
-    ensures { IfOk result (λ pairs. pairs ≡ at_once instants.now) }
-{
-    let mut pairs = Vec::new(alloc);
-    for instant in instants {
-        pairs.push(Pair {
-            instant: *instant,
-            chosen: *instant,
-        })?;
-    }
-    Ok(Pairs::from_vec(pairs))
-}
+use crate::sweep::stops::{close_stop, complete_stop};
+use durable_book::{GrowFault, close_one, complete};
+use durable_writes::enter;
+use policy_rules::Picker;
+use sched_plain::{LAST_MOMENT, Moment};
+use std::alloc::Global;
+use step_keeper::Keeper;
 
 /// Enters the occurrences of an incarnation that are wanted.
-pub(crate) fn enter<M: Machine>(
+pub(crate) fn enter_next<K: Keeper, P: Picker>(
     alloc: Global,
-    machine: &mut M,
+    keeper: &mut K,
     at: Moment,
     inc: u32,
-) -> Result<(), Stop>
-    requires { at.0 ≤ LAST_MOMENT }
-    ensures lessens { OnOk result ((shard : ℕ) (shards : List ℕ) (told : Perhaps (List Handed))
-        → Does (M.stands machine.old) (M.stands machine.new) at.0 shard shards (IsNext at.0 shard (Enter inc)) told told) }
-    ensures stays { OnErr result (Keeps (M.stands machine.old) (M.stands machine.new)) }
-    ensures unsound { result ≡ Err Stop.Unsound → (shard : ℕ) (shards : List ℕ) → NeverWanted (M.stands machine.old) at.0 shard shards (IsNext at.0 shard (Enter inc)) }
+    picker: &mut P,
+) -> Result<(), GrowFault>
+    requires moment { at.0 ≤ LAST_MOMENT }
+    requires later { K.latest keeper.old ≤ at.0 }
+    requires wanted { (shard : ℕ) × Wants (K.stands keeper.old) at.0 shard (Enter inc) }
+    ensures done { (sent : Perhaps (List Handed)) → Handles (K.stands keeper.old) (K.stands keeper.new) (K.held keeper.new) (K.full keeper.new) at.0 (Enter inc)
+        (outside (P.told picker.old) sent) (outside (P.told picker.new) sent) result }
+    ensures disk { IfErr result (λ fault. DiskRose (K.faults keeper.old) (K.faults keeper.new) (grow_denial fault)) }
+    ensures latest { K.latest keeper.new ≤ at.0 }
+    ensures faults { K.faults keeper.old ≤ K.faults keeper.new }
 {
-    // A machine that stands for a sound history names no such incarnation, and wants such instants alone.
-    if inc == 0 {
-        return Err(Stop::Unsound);
+    match enter(alloc, keeper, at, inc, picker) {
+        Ok(_) => Ok(()),
+        Err(fault) => Err(fault),
     }
-    let Ok(instants) = machine.wanted(inc, at) else {
-        return Err(Stop::OutOfMemory);
-    };
-    if !is_enterable(&instants) {
-        return Err(Stop::Unsound);
-    }
-    let Ok(pairs) = at_once(alloc, &instants) else {
-        return Err(Stop::OutOfMemory);
-    };
-    take(machine, Step::Enter { at, inc, pairs })?;
-    Ok(())
 }
 
 /// Closes an entry that is exhausted.
-pub(crate) fn close<M: Machine>(
-    machine: &mut M,
+pub(crate) fn close_next<K: Keeper>(
+    keeper: &mut K,
     at: Moment,
     inc: u32,
     instant: u64,
-    reason: Reason,
-) -> Result<(), Stop>
-    requires { at.0 ≤ LAST_MOMENT }
-    ensures lessens { OnOk result ((shard : ℕ) (shards : List ℕ) (told : Perhaps (List Handed))
-        → Does (M.stands machine.old) (M.stands machine.new) at.0 shard shards (IsNext at.0 shard (Close inc instant reason)) told told) }
-    ensures stays { OnErr result (Keeps (M.stands machine.old) (M.stands machine.new)) }
-    ensures unsound { result ≡ Err Stop.Unsound → (shard : ℕ) (shards : List ℕ) → NeverWanted (M.stands machine.old) at.0 shard shards (IsNext at.0 shard (Close inc instant reason)) }
+) -> Result<(), GrowFault>
+    requires moment { at.0 ≤ LAST_MOMENT }
+    requires later { K.latest keeper.old ≤ at.0 }
+    requires wanted { (reason : Reason) × (shard : ℕ) × Wants (K.stands keeper.old) at.0 shard (Close inc instant reason) }
+    ensures done { (reason : Reason) (o : Outside) → Handles (K.stands keeper.old) (K.stands keeper.new) (K.held keeper.new) (K.full keeper.new) at.0 (Close inc instant reason) o o result }
+    ensures disk { IfErr result (λ fault. DiskRose (K.faults keeper.old) (K.faults keeper.new) (grow_denial fault)) }
+    ensures latest { K.latest keeper.new ≤ at.0 }
+    ensures faults { K.faults keeper.old ≤ K.faults keeper.new }
 {
-    // A machine that stands for a sound history names no such occurrence.
-    if inc == 0 || instant > LAST_MOMENT {
-        return Err(Stop::Unsound);
+    match close_one(keeper, at, inc, instant) {
+        Ok(()) => Ok(()),
+        Err(fault) => Err(close_stop(fault)),
     }
-    let close = Step::Close {
-        at,
-        inc,
-        instant,
-        reason,
-    };
-    take(machine, close)?;
-    Ok(())
+}
+
+/// Removes a schedule that is finished.
+pub(crate) fn complete_next<K: Keeper>(
+    keeper: &mut K,
+    at: Moment,
+    inc: u32,
+) -> Result<(), GrowFault>
+    requires moment { at.0 ≤ LAST_MOMENT }
+    requires later { K.latest keeper.old ≤ at.0 }
+    requires wanted { (shard : ℕ) × Wants (K.stands keeper.old) at.0 shard (Complete inc) }
+    ensures done { (o : Outside) → Handles (K.stands keeper.old) (K.stands keeper.new) (K.held keeper.new) (K.full keeper.new) at.0 (Complete inc) o o result }
+    ensures disk { IfErr result (λ fault. DiskRose (K.faults keeper.old) (K.faults keeper.new) (grow_denial fault)) }
+    ensures latest { K.latest keeper.new ≤ at.0 }
+    ensures faults { K.faults keeper.old ≤ K.faults keeper.new }
+{
+    match complete(keeper, at, inc) {
+        Ok(()) => Ok(()),
+        Err(fault) => Err(complete_stop(fault)),
+    }
 }

@@ -5,24 +5,27 @@ ghost use Rattle.sched_plain.specs.Validity.{IsStatus};
 ghost use Rattle.sched_calls.specs.Replies.{schedule_arn};
 ghost use Rattle.target_link.specs.declared.link.Heard.{Heard as Heard};
 ghost use Rattle.target_link.specs.Told.{with_sent};
-ghost use Rattle.timer_work.specs.Ready.{request_in, request_within};
+ghost use Rattle.timer_work.specs.Ready.{request_in, request_within, HasRoom};
 ghost use Rattle.timer_work.specs.Sendings.{HeardSays, AttemptSent, facts_by, facts_of, request_by, request_for};
 
-use plain_book::Machine;
 use plain_words::copy_option;
 use sched_calls::arn_of;
 use sched_plain::{LAST_MOMENT, Name, Schedule, Verdict};
 use std::alloc::{AllocError, Global};
+use step_machine::Machine;
 use target_link::{
     Address, BeginFacts, LONGEST_REPLY, Link, SpotFault, address_of, request_of, verdict_of,
 };
 
 /// A request that is ready to be sent, with room for its reply.
 #[derive(Debug, Drop)]
-pub(crate) struct ReadyRequest {
-    to: Address,
-    text: Vec<u8>,
-    reply: Vec<u8>,
+pub struct ReadyRequest {
+    /// Where it goes.
+    pub to: Address,
+    /// Its bytes.
+    pub text: Vec<u8>,
+    /// The room for its reply.
+    pub reply: Vec<u8>,
 }
 
 /// What the request of an attempt says, by the names and the content of its schedule.
@@ -106,7 +109,7 @@ pub(crate) fn prepare<M: Machine, L: Link>(
 ) -> Result<Option<ReadyRequest>, AllocError>
     requires { instant ≤ LAST_MOMENT }
     ensures request { (h : History) → M.stands machine.now h → IfOk result (λ ready. request_within ready ≡ request_for h inc instant number) }
-    ensures ready { IfOk result (λ ready. IfSome ready (λ ready. (0 < L.sends_left link.new) × (length ready.text.items ≤ L.most_bytes link.new))) }
+    ensures room { IfOk result (HasRoom (L.sends_left link.new) (L.most_bytes link.new)) }
     ensures told { L.told link.new ≡ L.told link.old }
     ensures losses { L.losses link.new ≡ L.losses link.old }
 {
@@ -116,8 +119,8 @@ pub(crate) fn prepare<M: Machine, L: Link>(
     }
 }
 
-/// Sends a request that is ready; the answer is what its reply says.
-fn send_ready<L: Link>(link: &mut L, request: ReadyRequest) -> (Verdict, u16)
+/// Sends a request that is ready, once; the answer is what its reply says. A lost link gives Retry and 0. It takes no memory.
+pub fn post_one<L: Link>(link: &mut L, request: ReadyRequest) -> (Verdict, u16)
     requires sends { 0 < L.sends_left link.old }
     requires fits { length request.text.items ≤ L.most_bytes link.old }
     ensures sent { (answer : Heard) × (L.told link.new ≡ with_sent request.to request.text.items (length request.reply.items) answer (L.told link.old)) × HeardSays answer result.0 result.1 }
@@ -133,13 +136,13 @@ fn send_ready<L: Link>(link: &mut L, request: ReadyRequest) -> (Verdict, u16)
 
 /// Sends the request of an attempt, where it has one; the answer is what its reply says of the attempt.
 pub(crate) fn send<L: Link>(link: &mut L, request: Option<ReadyRequest>) -> (Verdict, u16)
-    requires { IfSome request (λ ready. (0 < L.sends_left link.old) × (length ready.text.items ≤ L.most_bytes link.old)) }
+    requires { HasRoom (L.sends_left link.old) (L.most_bytes link.old) request }
     ensures sent { AttemptSent (request_within request) (L.told link.old) (L.told link.new) result.0 result.1 }
     ensures status { IsStatus result.1 }
     ensures losses { L.losses link.old ≤ L.losses link.new }
 {
     match request {
-        Some(request) => send_ready(link, request),
+        Some(request) => post_one(link, request),
         None => (Verdict::Retry, 0),
     }
 }

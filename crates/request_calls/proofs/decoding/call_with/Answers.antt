@@ -1,4 +1,4 @@
-use Rattle.std.proofs.Common.{rules, refl}
+use Rattle.std.proofs.Common.{rules}
 use Rattle.request_fields.proofs.Chains.{ends}
 use Rattle.request_calls.specs.Calls.{call_with}
 use Rattle.request_calls.proofs.decoding.call_with.Goals as goal

@@ -1,4 +1,4 @@
-use Rattle.std.proofs.Common.{rules, refl}
+use Rattle.std.proofs.Common.{rules}
 use Rattle.request_fields.proofs.Chains.{ends, owned_ends}
 use Rattle.request_calls.proofs.decoding.creation.Goals as goal
 

@@ -7,6 +7,7 @@ use Rattle.ledger_rows.proofs.Standing.{lose_told}
 use Rattle.ledger_rows.proofs.FlightLemmas.{flown_lost}
 use Rattle.ledger_rows.proofs.LastLive.{last_lost}
 use Rattle.ledger_rows.proofs.Losses.{lost_all}
+use Rattle.ledger_rows.proofs.Tallied.{kept_lost}
 use Rattle.ledger_rows.proofs.ledger.Ledger.lose.Goals as goal
 
 pub invariant_of-self : goal.invariant_of-self
@@ -21,6 +22,7 @@ invariant_of-self c =
       c.lose_in.ensures.shelved,
       subst (AreFlown new) (sym c.drop_lost.ensures) (flown_lost old new flights c.args.shard c.args.at.0 all c.self.invariant.2),
       last_lost old new c.args.shard c.args.at.0 all c.self.invariant.3,
+      kept_lost old new c.self.inside.tally (λ i k. is_lost_in c.args.shard i && is_flown flights i k) c.args.at.0 c.lose_in.ensures.length these c.self.invariant.4,
     )
 
 pub returns-clause-stands : goal.returns-clause-stands

@@ -1,31 +1,38 @@
-use Rattle.std.proofs.Common.{◌≡◌, Err, rules}
-use Rattle.timer_work.specs.Sweeping.{AtWork}
+use Rattle.std.proofs.Common.{◌∙◌, ap, refl}
+use Rattle.timer_work.specs.Places.{AtWork}
+use Rattle.timer_work.specs.Sendings.{request_for}
+use Rattle.timer_work.proofs.AttemptLemmas.{attempt_fits, small_number, lessened_told, stopped_told}
 use Rattle.timer_work.proofs.WentLemmas.{stopped_here}
-use Rattle.timer_work.specs.declared.sweep.steps.Stop.TheVariants as stops
-use Rattle.sched_calls.specs.Serves.{next_number}
-use Rattle.timer_work.proofs.Following.{begin_in_range, number_in_range}
 use Rattle.timer_work.proofs.sweep.attempt.attempt.Goals as goal
 
-pub returns-then-inc-eq0-clause-stopped : goal.returns-then-inc-eq0-clause-stopped
-returns-then-inc-eq0-clause-stopped g c = λ shard shards h st fit w. stopped_here _ c.args.at.0 (AtWork shard shards) h _ st fit
+pub next_number-number-requires : goal.next_number-number-requires
+next_number-number-requires g c =
+    let (shard, (shards, (since, h, st, (fit, asks)))) = c.requires.wanted in
+    record { small = (h, c.book.ensures.stands since h (g.met.K.Keeper.holds _ since h st), (small_number c.args.at.0 shard c.args.inc c.args.instant h asks).1) }
 
-pub returns-in_default-clause-stopped : goal.returns-in_default-clause-stopped
-returns-in_default-clause-stopped g c = λ shard shards h st fit w. stopped_here _ c.args.at.0 (AtWork shard shards) h _ st fit
+pub prepare-requires : goal.prepare-requires
+prepare-requires g c =
+    let (shard, (shards, (since, h, st, (fit, asks)))) = c.requires.wanted in
+    let valid = (attempt_fits c.args.at.0 shard c.args.inc c.args.instant h asks).0 in
+    valid.2
 
-pub returns-then-inc-eq0-clause-unsound : goal.returns-then-inc-eq0-clause-unsound
-returns-then-inc-eq0-clause-unsound g c = λ is shard shards h st fit w. begin_in_range c.args.at.0 shard c.args.inc c.args.instant shards h fit w c.then-inc-eq0.either
+pub attempt_ready-requires-clause-request : goal.attempt_ready-requires-clause-request
+attempt_ready-requires-clause-request g c = λ since h st.
+    let held = g.met.K.Keeper.holds _ since h st in
+    c.in-Ok.ensures.request h (c.book-2.ensures.stands since h held)
+    ∙ ap (request_for h c.args.inc c.args.instant) (c.next_number-number.ensures h (c.book.ensures.stands since h held))
 
-pub returns-in_default-clause-unsound : goal.returns-in_default-clause-unsound
-returns-in_default-clause-unsound g c = λ is shard shards h st fit w.
-    number_in_range c.args.at.0 shard c.args.inc c.args.instant shards h fit (c.next_number.ensures.past h st c.in_default.is)
+pub returns-in_default-clause-done : goal.returns-in_default-clause-done
+returns-in_default-clause-done g c = λ words since h shard shards st (fit, asks).
+    stopped_told _ _ _ c.args.at.0 _ h words _ _ _ refl _ c.in_default.ensures.told
+    (stopped_here _ _ _ c.args.at.0 (AtWork shard shards) h _ (g.met.K.Keeper.holds _ since h st) fit tt tt)
 
-pub returns-in_err-attempt_numbered-clause-unsound : goal.returns-in_err-attempt_numbered-clause-unsound
-returns-in_err-attempt_numbered-clause-unsound g c = λ is shard shards h st fit w.
-    let same : c.attempt_numbered.result ≡ Err stops.Unsound = search rules in
-    let n : c.in-Some.number ≡ next_number h c.args.inc c.args.instant = c.in-Some.ensures.number h st in
-    c.attempt_numbered.ensures.unsound same shard shards h st fit (w, n)
+pub returns-in-Err-clause-done : goal.returns-in-Err-clause-done
+returns-in-Err-clause-done g c = λ words since h shard shards st offered.
+    stopped_told _ _ _ c.args.at.0 _ h words _ _ _ c.in-Ok.ensures.told _ refl
+    (c.in-Err.ensures.done words since h shard shards st offered)
 
-pub returns-clause-lessens : goal.returns-clause-lessens
-returns-clause-lessens g c = λ shard shards h st fit w.
-    let n : c.in-Some.number ≡ next_number h c.args.inc c.args.instant = c.in-Some.ensures.number h st in
-    c.in_ok-attempt_numbered.ensures.lessens shard shards h st fit (w, n)
+pub returns-clause-done : goal.returns-clause-done
+returns-clause-done g c = λ words since h shard shards st offered.
+    lessened_told _ c.args.at.0 shard shards h words _ _ _ c.in-Ok.ensures.told
+    (c.in_default-attempt_ready.ensures.done words since h shard shards st offered)

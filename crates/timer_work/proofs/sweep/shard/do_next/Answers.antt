@@ -1,40 +1,36 @@
-use Rattle.std.proofs.Common.{◌∙◌}
-use Rattle.timer_work.specs.Sweeping.{AtWork}
-use Rattle.timer_work.proofs.WentLemmas.{err_stops, stopped_here}
-use Rattle.timer_work.proofs.Following.{complete_never, live_never, none_of_three}
-use Rattle.timer_work.proofs.Lessening.{ok_lessens, ok_lessens_silently}
+use Rattle.timer_work.specs.Going.{outside}
+use Rattle.timer_work.proofs.OfferLemmas.{wants_as, handles_as, never_live}
 use Rattle.timer_work.proofs.sweep.shard.do_next.Goals as goal
 
-pub returns-in-Enter-clause-stopped : goal.returns-in-Enter-clause-stopped
-returns-in-Enter-clause-stopped g c = err_stops c.enter.result _ _ c.args.at.0 _ c.args.next c.enter.ensures.stays
+pub enter_next-requires-clause-wanted : goal.enter_next-requires-clause-wanted
+enter_next-requires-clause-wanted g c = wants_as _ c.args.at.0 _ _ c.in-Enter.is c.requires.wanted
 
-pub returns-in-Close-clause-stopped : goal.returns-in-Close-clause-stopped
-returns-in-Close-clause-stopped g c = err_stops c.close.result _ _ c.args.at.0 _ c.args.next c.close.ensures.stays
+pub close_next-requires-clause-wanted : goal.close_next-requires-clause-wanted
+close_next-requires-clause-wanted g c = let w = wants_as _ c.args.at.0 _ _ c.in-Close.is c.requires.wanted in (c.in-Close.reason, w.0, w.1)
 
-pub returns-in-Complete-clause-stopped : goal.returns-in-Complete-clause-stopped
-returns-in-Complete-clause-stopped g c = λ shard shards h st fit w. stopped_here _ c.args.at.0 (AtWork shard shards) h _ st fit
+pub attempt-requires-clause-wanted : goal.attempt-requires-clause-wanted
+attempt-requires-clause-wanted g c = wants_as _ c.args.at.0 _ _ c.in-Begin.is c.requires.wanted
 
-pub returns-in-Enter-clause-unsound : goal.returns-in-Enter-clause-unsound
-returns-in-Enter-clause-unsound g c = λ is some shard shards h st fit w. c.enter.ensures.unsound is shard shards h st fit (w ∙ c.in-Enter.is)
+pub complete_next-requires-clause-wanted : goal.complete_next-requires-clause-wanted
+complete_next-requires-clause-wanted g c = wants_as _ c.args.at.0 _ _ c.in-Complete.is c.requires.wanted
 
-pub returns-in-Close-clause-unsound : goal.returns-in-Close-clause-unsound
-returns-in-Close-clause-unsound g c = λ is some shard shards h st fit w. c.close.ensures.unsound is shard shards h st fit (w ∙ c.in-Close.is)
+pub returns-in-Enter-clause-done : goal.returns-in-Enter-clause-done
+returns-in-Enter-clause-done g c =
+    handles_as c.enter_next.result _ _ _ _ c.args.at.0 c.args.next _ _ _ c.in-Enter.is (c.enter_next.ensures.done (g.L.Link.told c.args.link.now))
 
-pub returns-in-Begin-clause-unsound : goal.returns-in-Begin-clause-unsound
-returns-in-Begin-clause-unsound g c = λ is some shard shards h st fit w. c.attempt.ensures.unsound is shard shards h st fit (w ∙ c.in-Begin.is)
+pub returns-in-Close-clause-done : goal.returns-in-Close-clause-done
+returns-in-Close-clause-done g c =
+    handles_as c.close_next.result _ _ _ _ c.args.at.0 c.args.next _ _ _ c.in-Close.is
+    (c.close_next.ensures.done c.in-Close.reason (outside (g.P.Picker.told c.args.picker.now) (g.L.Link.told c.args.link.now)))
 
-pub returns-in-Complete-clause-unsound : goal.returns-in-Complete-clause-unsound
-returns-in-Complete-clause-unsound g c = λ is some shard shards h st fit w.
-    none_of_three
-    (λ p. complete_never c.args.at.0 shard p.0 shards h fit (w ∙ p.1))
-    (λ p. live_never c.args.at.0 shard p.0 p.1 shards h fit (w ∙ p.2))
-    some c.in-Complete.is
+pub returns-in-Begin-clause-done : goal.returns-in-Begin-clause-done
+returns-in-Begin-clause-done g c =
+    handles_as c.attempt.result _ _ _ _ c.args.at.0 c.args.next _ _ _ c.in-Begin.is (c.attempt.ensures.done (g.P.Picker.told c.args.picker.now))
 
-pub returns-in-Enter-clause-lessens : goal.returns-in-Enter-clause-lessens
-returns-in-Enter-clause-lessens g c = ok_lessens_silently c.enter.result _ _ c.args.at.0 _ c.args.next _ c.in-Enter.is c.enter.ensures.lessens
+pub returns-in-Complete-clause-done : goal.returns-in-Complete-clause-done
+returns-in-Complete-clause-done g c =
+    handles_as c.complete_next.result _ _ _ _ c.args.at.0 c.args.next _ _ _ c.in-Complete.is
+    (c.complete_next.ensures.done (outside (g.P.Picker.told c.args.picker.now) (g.L.Link.told c.args.link.now)))
 
-pub returns-in-Close-clause-lessens : goal.returns-in-Close-clause-lessens
-returns-in-Close-clause-lessens g c = ok_lessens_silently c.close.result _ _ c.args.at.0 _ c.args.next _ c.in-Close.is c.close.ensures.lessens
-
-pub returns-in-Begin-clause-lessens : goal.returns-in-Begin-clause-lessens
-returns-in-Begin-clause-lessens g c = ok_lessens c.attempt.result _ _ c.args.at.0 _ _ c.args.next _ c.in-Begin.is c.attempt.ensures.lessens
+pub unreachable-requires : goal.unreachable-requires
+unreachable-requires g c = never_live _ c.args.at.0 c.in-Live.inc c.in-Live.instant (wants_as _ c.args.at.0 _ _ c.in-Live.is c.requires.wanted)

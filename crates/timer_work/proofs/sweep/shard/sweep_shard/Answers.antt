@@ -1,62 +1,90 @@
-use Rattle.std.proofs.Common.{◌∷◌, ◌∙◌}
-use Rattle.timer_work.specs.Sweeping.{Before, AtWork, Unreleased}
-use Rattle.timer_work.proofs.WentLemmas.{went_on, stopped_on, stopped_here}
+use Rattle.std.proofs.Common.{◌∷◌, None, refl, arith}
+use Rattle.timer_work.specs.Going.{outside}
+use Rattle.timer_work.specs.Places.{Before, AtWork, Unreleased}
+use Rattle.timer_work.proofs.ActLemmas.{disk_as}
+use Rattle.timer_work.proofs.WentLemmas.{went_on, stopped_on}
 use Rattle.timer_work.proofs.sweep.shard.sweep_shard.Goals as goal
 
-pub returns-in-Err-clause-stopped : goal.returns-in-Err-clause-stopped
-returns-in-Err-clause-stopped g c = λ shards h st fit. stopped_here _ c.args.at.0 (Before (c.args.shard ∷ shards)) h _ (c.in-Err.ensures.stays h st) fit
+pub work_until_settled-requires-clause-lives : goal.work_until_settled-requires-clause-lives
+work_until_settled-requires-clause-lives g c =
+    let (shards, (since, h, st, fit)) = c.requires.lives in
+    let taken = c.in_default.ensures.went shards (outside None None) since h st fit in
+    (shards, (since, taken.after, taken.stands, taken.fit))
 
-pub returns-in-Err-work_until_settled-clause-stopped : goal.returns-in-Err-work_until_settled-clause-stopped
-returns-in-Err-work_until_settled-clause-stopped g c = λ shards h st fit.
-    let taken = c.in_default.ensures.taken shards (g.L.Link.told c.args.link.now) h st fit in
-    stopped_on _ _ c.args.at.0 (Before (c.args.shard ∷ shards)) h _ (AtWork c.args.shard shards) _ _ taken
-    (c.in-Err-work_until_settled.ensures.stopped shards taken.after taken.stands taken.fit)
+pub mark_swept-requires-clause-wanted : goal.mark_swept-requires-clause-wanted
+mark_swept-requires-clause-wanted g c =
+    let (shards, (since, h, st, fit)) = c.requires.lives in
+    let taken = c.in_default.ensures.went shards (outside None None) since h st fit in
+    let worked = c.in_default-work_until_settled.ensures.settled shards since taken.after taken.stands taken.fit in
+    (shards, (since, worked.went.after, worked.went.stands, (worked.went.fit, worked.asks)))
 
-pub returns-in-Err-mark_swept-clause-stopped : goal.returns-in-Err-mark_swept-clause-stopped
-returns-in-Err-mark_swept-clause-stopped g c = λ shards h st fit.
-    let taken = c.in_default.ensures.taken shards (g.L.Link.told c.args.link.now) h st fit in
-    let worked = c.in_default-work_until_settled.ensures.settled shards taken.after taken.stands taken.fit in
-    stopped_on _ _ c.args.at.0 (Before (c.args.shard ∷ shards)) h _ (AtWork c.args.shard shards) _ _ taken
-    (stopped_on _ _ c.args.at.0 (AtWork c.args.shard shards) taken.after _ (AtWork c.args.shard shards) _ _ worked.0
-    (stopped_here _ c.args.at.0 (AtWork c.args.shard shards) worked.0.after _ (c.in-Err-mark_swept.ensures.stays worked.0.after worked.0.stands) worked.0.fit))
+pub give_back-requires-clause-lives : goal.give_back-requires-clause-lives
+give_back-requires-clause-lives g c =
+    let (shards, (since, h, st, fit)) = c.requires.lives in
+    let taken = c.in_default.ensures.went shards (outside None None) since h st fit in
+    let worked = c.in_default-work_until_settled.ensures.settled shards since taken.after taken.stands taken.fit in
+    let swept = c.in_default-mark_swept.ensures.swept shards (outside None None) since worked.went.after worked.went.stands (worked.went.fit, worked.asks) in
+    (shards, (since, swept.after, swept.stands, swept.fit))
 
-pub returns-in-Err-release-clause-stopped : goal.returns-in-Err-release-clause-stopped
-returns-in-Err-release-clause-stopped g c = λ shards h st fit.
-    let taken = c.in_default.ensures.taken shards (g.L.Link.told c.args.link.now) h st fit in
-    let worked = c.in_default-work_until_settled.ensures.settled shards taken.after taken.stands taken.fit in
-    let swept = c.in_default-mark_swept.ensures.swept shards (g.L.Link.told c.work_until_settled.new.link) worked.0.after worked.0.stands worked.0.fit worked.1 in
-    stopped_on _ _ c.args.at.0 (Before (c.args.shard ∷ shards)) h _ (AtWork c.args.shard shards) _ _ taken
-    (stopped_on _ _ c.args.at.0 (AtWork c.args.shard shards) taken.after _ (AtWork c.args.shard shards) _ _ worked.0
-    (stopped_on _ _ c.args.at.0 (AtWork c.args.shard shards) worked.0.after _ (Unreleased c.args.shard shards) _ _ swept
-    (stopped_here _ c.args.at.0 (Unreleased c.args.shard shards) swept.after _ (c.in-Err-release.ensures.stays swept.after swept.stands) swept.fit)))
+pub returns-in-Err-clause-went : goal.returns-in-Err-clause-went
+returns-in-Err-clause-went g c = λ shards since h st fit.
+    c.in-Err.ensures.went shards (outside (g.P.Picker.told c.args.picker.now) (g.L.Link.told c.args.link.now)) since h st fit
 
-pub returns-clause-swept : goal.returns-clause-swept
-returns-clause-swept g c = λ shards h st fit.
-    let taken = c.in_default.ensures.taken shards (g.L.Link.told c.args.link.now) h st fit in
-    let worked = c.in_default-work_until_settled.ensures.settled shards taken.after taken.stands taken.fit in
-    let swept = c.in_default-mark_swept.ensures.swept shards (g.L.Link.told c.work_until_settled.new.link) worked.0.after worked.0.stands worked.0.fit worked.1 in
+pub returns-in-Err-work_until_settled-clause-went : goal.returns-in-Err-work_until_settled-clause-went
+returns-in-Err-work_until_settled-clause-went g c = λ shards since h st fit.
+    let o = outside (g.P.Picker.told c.args.picker.now) (g.L.Link.told c.args.link.now) in
+    let taken = c.in_default.ensures.went shards o since h st fit in
+    stopped_on _ _ _ _ c.args.at.0 (Before (c.args.shard ∷ shards)) h _ (AtWork c.args.shard shards) _ _ taken
+    (c.in-Err-work_until_settled.ensures.settled shards since taken.after taken.stands taken.fit)
+
+pub returns-in-Err-mark_swept-clause-went : goal.returns-in-Err-mark_swept-clause-went
+returns-in-Err-mark_swept-clause-went g c = λ shards since h st fit.
+    let o = outside (g.P.Picker.told c.args.picker.now) (g.L.Link.told c.args.link.now) in
+    let n = outside (g.P.Picker.told c.work_until_settled.new.picker) (g.L.Link.told c.work_until_settled.new.link) in
+    let taken = c.in_default.ensures.went shards o since h st fit in
+    let worked = c.in_default-work_until_settled.ensures.settled shards since taken.after taken.stands taken.fit in
+    stopped_on _ _ _ _ c.args.at.0 (Before (c.args.shard ∷ shards)) h _ (AtWork c.args.shard shards) _ _ taken
+    (stopped_on _ _ _ _ c.args.at.0 (AtWork c.args.shard shards) taken.after _ (AtWork c.args.shard shards) _ _ worked.went
+    (c.in-Err-mark_swept.ensures.swept shards n since worked.went.after worked.went.stands worked.went.fit))
+
+pub returns-in-Err-give_back-clause-went : goal.returns-in-Err-give_back-clause-went
+returns-in-Err-give_back-clause-went g c = λ shards since h st fit.
+    let o = outside (g.P.Picker.told c.args.picker.now) (g.L.Link.told c.args.link.now) in
+    let n = outside (g.P.Picker.told c.work_until_settled.new.picker) (g.L.Link.told c.work_until_settled.new.link) in
+    let taken = c.in_default.ensures.went shards o since h st fit in
+    let worked = c.in_default-work_until_settled.ensures.settled shards since taken.after taken.stands taken.fit in
+    let swept = c.in_default-mark_swept.ensures.swept shards n since worked.went.after worked.went.stands (worked.went.fit, worked.asks) in
+    stopped_on _ _ _ _ c.args.at.0 (Before (c.args.shard ∷ shards)) h _ (AtWork c.args.shard shards) _ _ taken
+    (stopped_on _ _ _ _ c.args.at.0 (AtWork c.args.shard shards) taken.after _ (AtWork c.args.shard shards) _ _ worked.went
+    (stopped_on _ _ _ _ c.args.at.0 (AtWork c.args.shard shards) worked.went.after _ (Unreleased c.args.shard shards) _ _ swept
+    (c.in-Err-give_back.ensures.went shards n since swept.after swept.stands swept.fit)))
+
+pub returns-clause-went : goal.returns-clause-went
+returns-clause-went g c = λ shards since h st fit.
+    let o = outside (g.P.Picker.told c.args.picker.now) (g.L.Link.told c.args.link.now) in
+    let n = outside (g.P.Picker.told c.work_until_settled.new.picker) (g.L.Link.told c.work_until_settled.new.link) in
+    let taken = c.in_default.ensures.went shards o since h st fit in
+    let worked = c.in_default-work_until_settled.ensures.settled shards since taken.after taken.stands taken.fit in
+    let swept = c.in_default-mark_swept.ensures.swept shards n since worked.went.after worked.went.stands (worked.went.fit, worked.asks) in
     went_on _ _ c.args.at.0 (Before (c.args.shard ∷ shards)) h _ (AtWork c.args.shard shards) _ (Before shards) _ taken
-    (went_on _ _ c.args.at.0 (AtWork c.args.shard shards) taken.after _ (AtWork c.args.shard shards) _ (Before shards) _ worked.0
-    (went_on _ _ c.args.at.0 (AtWork c.args.shard shards) worked.0.after _ (Unreleased c.args.shard shards) _ (Before shards) _ swept
-    (c.in_default-release.ensures.released shards (g.L.Link.told c.work_until_settled.new.link) swept.after swept.stands swept.fit)))
+    (went_on _ _ c.args.at.0 (AtWork c.args.shard shards) taken.after _ (AtWork c.args.shard shards) _ (Before shards) _ worked.went
+    (went_on _ _ c.args.at.0 (AtWork c.args.shard shards) worked.went.after _ (Unreleased c.args.shard shards) _ (Before shards) _ swept
+    (c.in_default-give_back.ensures.went shards n since swept.after swept.stands swept.fit)))
 
-pub returns-in-Err-clause-unsound : goal.returns-in-Err-clause-unsound
-returns-in-Err-clause-unsound g c = λ is shards h st fit. c.take_shard.ensures.unsound (c.in-Err.is ∙ is) shards h st fit
+pub returns-in-Err-work_until_settled-clause-disk : goal.returns-in-Err-work_until_settled-clause-disk
+returns-in-Err-work_until_settled-clause-disk g c =
+    let a = c.take_shard.ensures.faults in
+    disk_as _ _ _ _ _ a refl c.in-Err-work_until_settled.ensures.disk
 
-pub returns-in-Err-work_until_settled-clause-unsound : goal.returns-in-Err-work_until_settled-clause-unsound
-returns-in-Err-work_until_settled-clause-unsound g c = λ is shards h st fit.
-    let taken = c.in_default.ensures.taken shards (g.L.Link.told c.args.link.now) h st fit in
-    c.work_until_settled.ensures.unsound (c.in-Err-work_until_settled.is ∙ is) shards taken.after taken.stands taken.fit
+pub returns-in-Err-mark_swept-clause-disk : goal.returns-in-Err-mark_swept-clause-disk
+returns-in-Err-mark_swept-clause-disk g c =
+    let a = c.take_shard.ensures.faults in
+    let b = c.work_until_settled.ensures.faults in
+    disk_as _ _ _ _ _ (omega (arith, a, b)) refl c.in-Err-mark_swept.ensures.disk
 
-pub returns-in-Err-mark_swept-clause-unsound : goal.returns-in-Err-mark_swept-clause-unsound
-returns-in-Err-mark_swept-clause-unsound g c = λ is shards h st fit.
-    let taken = c.in_default.ensures.taken shards (g.L.Link.told c.args.link.now) h st fit in
-    let worked = c.in_default-work_until_settled.ensures.settled shards taken.after taken.stands taken.fit in
-    c.mark_swept.ensures.unsound (c.in-Err-mark_swept.is ∙ is) shards worked.0.after worked.0.stands worked.0.fit worked.1
-
-pub returns-in-Err-release-clause-unsound : goal.returns-in-Err-release-clause-unsound
-returns-in-Err-release-clause-unsound g c = λ is shards h st fit.
-    let taken = c.in_default.ensures.taken shards (g.L.Link.told c.args.link.now) h st fit in
-    let worked = c.in_default-work_until_settled.ensures.settled shards taken.after taken.stands taken.fit in
-    let swept = c.in_default-mark_swept.ensures.swept shards (g.L.Link.told c.work_until_settled.new.link) worked.0.after worked.0.stands worked.0.fit worked.1 in
-    c.release.ensures.unsound (c.in-Err-release.is ∙ is) shards swept.after swept.stands swept.fit
+pub returns-in-Err-give_back-clause-disk : goal.returns-in-Err-give_back-clause-disk
+returns-in-Err-give_back-clause-disk g c =
+    let a = c.take_shard.ensures.faults in
+    let b = c.work_until_settled.ensures.faults in
+    let d = c.mark_swept.ensures.faults in
+    disk_as _ _ _ _ _ (omega (arith, a, b, d)) refl c.in-Err-give_back.ensures.disk

@@ -1,28 +1,32 @@
-use Rattle.std.proofs.Common.{◌≡◌, ◌+◌, refl, ap, rules, arith, Err}
-use Rattle.sched_plain.specs.declared.holder.Holder.{Holder}
-use Rattle.sched_plain.specs.declared.step.Step.TheVariants as steps
-use Rattle.sched_plain.specs.Leases.{holder}
-use Rattle.sched_plain.specs.Validity.{IsValid}
-use Rattle.plain_words.specs.declared.limits.TheConstants.{LEASE_SECONDS}
+use Rattle.std.proofs.Common.{◌∷◌, arith}
+use Rattle.durable_book.specs.Faults.{lease_denial}
+use Rattle.durable_book.specs.Steps.{lease_of}
+use Rattle.sweep_laws.proofs.Follow.{may_take}
+use Rattle.book_parts.specs.Stands.{calendar}
+use Rattle.timer_work.specs.Places.{Before}
+use Rattle.timer_work.proofs.ActLemmas.{puts_here, stays_here, growing, stop_cause, disk_as}
 use Rattle.timer_work.proofs.StepLemmas.{taking_went}
-use Rattle.timer_work.specs.declared.sweep.steps.Stop.TheVariants as stops
-use Rattle.timer_work.proofs.Following.{take_follows}
+use Rattle.timer_work.proofs.WentLemmas.{stopped_here}
 use Rattle.timer_work.proofs.sweep.shard.take_shard.Goals as goal
 
-pub returns-clause-taken : goal.returns-clause-taken
-returns-clause-taken g c = λ shards told h st fit.
-    let epoch = c.in-Some.epoch in
-    let held = ap (λ (x : Holder). x.epoch) (c.holder.ensures h st) in
-    let next : epoch ≡ (holder h c.args.shard).epoch + 1 = omega (arith, c.in-Some.ensures, held) in
-    let valid : IsValid (steps.Lease c.args.at c.args.shard 0 epoch (c.args.at.0 + LEASE_SECONDS)) = search rules in
-    taking_went _ c.args.at c.args.shard epoch (c.args.at.0 + LEASE_SECONDS) shards h told next refl fit
-    (record { form = refl; valid = valid; follows = c.in_ok-take.ensures.follows h st })
-    (c.in_ok-take.ensures.taken h st)
+pub lease_stop-requires : goal.lease_stop-requires
+lease_stop-requires g c =
+    let (shards, (since, h, st, fit)) = c.requires.lives in
+    let (held, cause) = stays_here _ _ _ _ _ (g.met.K.Keeper.holds _) (g.met.K.Keeper.settled _) c.in-Err.ensures.refused since h st in
+    growing (g.K.Keeper.full c.lease.new.keeper) (lease_of h c.args.at.0 c.args.shard 0) (lease_denial c.in-Err.fault) h
+    (may_take calendar h c.args.shard c.args.at.0 fit.early (fit.free c.args.shard)) cause
 
-pub returns-in_err-take-clause-unsound : goal.returns-in_err-take-clause-unsound
-returns-in_err-take-clause-unsound g c = λ is shards h st fit.
-    let same : c.take.result ≡ Err stops.Unsound = search rules in
-    let epoch = c.in-Some.epoch in
-    let held = ap (λ (x : Holder). x.epoch) (c.holder.ensures h st) in
-    let next : epoch ≡ (holder h c.args.shard).epoch + 1 = omega (arith, c.in-Some.ensures, held) in
-    c.take.ensures.unsound same h st (take_follows c.args.at c.args.shard epoch (c.args.at.0 + LEASE_SECONDS) shards h next refl fit)
+pub returns-in-Ok-clause-went : goal.returns-in-Ok-clause-went
+returns-in-Ok-clause-went g c = λ shards o since h st fit.
+    taking_went _ c.args.at.0 c.args.shard shards h o fit
+    (puts_here _ _ _ _ _ _ (g.met.K.Keeper.holds _) (g.met.K.Keeper.settled _) c.in-Ok.ensures.leased since h st).0
+
+pub returns-in-Err-clause-went : goal.returns-in-Err-clause-went
+returns-in-Err-clause-went g c = λ shards o since h st fit.
+    let full = g.K.Keeper.full c.lease.new.keeper in
+    let (held, cause) = stays_here _ _ _ _ _ (g.met.K.Keeper.holds _) (g.met.K.Keeper.settled _) c.in-Err.ensures.refused since h st in
+    stopped_here _ full c.lease_stop.result c.args.at.0 (Before (c.args.shard ∷ shards)) h o held fit tt
+    (stop_cause full (lease_of h c.args.at.0 c.args.shard 0) (lease_denial c.in-Err.fault) c.lease_stop.result h c.lease_stop.ensures cause)
+
+pub returns-in-Err-clause-disk : goal.returns-in-Err-clause-disk
+returns-in-Err-clause-disk g c = disk_as _ _ _ _ _ (omega arith) c.lease_stop.ensures c.in-Err.ensures.disk

@@ -1,0 +1,10 @@
+pub mod NothingLemmas
+pub mod ChoiceLemmas
+pub mod EnterLemmas
+pub mod ResultLemmas
+pub mod LeadLemmas
+pub mod ChangeLemmas
+pub mod StopLemmas
+pub mod ZoneLemmas
+pub mod CutLemmas
+pub mod WriteLemmas
