@@ -29,17 +29,30 @@ fn finished_with(
     }
 }
 
+/// The same of a current content, by the entries. What waits is counted only where the rest says that the schedule is finished.
+fn finished_content(content: &Schedule, ledger: &Ledger, next: Option<u64>, inc: u32) -> Option<u64>
+    ensures { (calls : List LedgerCall) → LedgerStands ledger.now calls → result ≡ finished_by (Some content.now) calls next inc }
+{
+    if !content.delete_after {
+        return None;
+    }
+    if next.is_some() {
+        return None;
+    }
+    finished_with(
+        content,
+        next,
+        ledger.undecided(inc) > 0,
+        ledger.last_entered(inc),
+    )
+}
+
 /// The same of a row.
 fn finished_row(row: &KeptRow, ledger: &Ledger, next: Option<u64>, inc: u32) -> Option<u64>
     ensures { (calls : List LedgerCall) → LedgerStands ledger.now calls → result ≡ finished_by (current_of row.now.row) calls next inc }
 {
     match row.current() {
-        Some(content) => finished_with(
-            content,
-            next,
-            ledger.undecided(inc) > 0,
-            ledger.last_entered(inc),
-        ),
+        Some(content) => finished_content(content, ledger, next, inc),
         None => None,
     }
 }

@@ -38,6 +38,27 @@ fn inc_of(work: Work) -> u32 {
     }
 }
 
+/// Asks for the next work of a schedule's shard at a moment.
+pub fn work_at<M: Machine>(
+    rt: &HostRuntime,
+    machine: &M,
+    inc: u32,
+    at: u64,
+    rounds: u64,
+) -> anyhow::Result<(u64, u128)> {
+    let shard = shard_of(inc);
+    if shard >= SHARDS {
+        bail!("no shard");
+    }
+    let mut sum: u64 = 0;
+    let start = Instant::now(rt)?;
+    for _ in 0..rounds {
+        let next = machine.next_work(shard, Moment(at));
+        sum = sum.wrapping_add(u64::from(inc_of(next)));
+    }
+    Ok((sum, start.elapsed(rt)?.as_nanos()))
+}
+
 /// Asks for the next work of the busy schedule's shard, when it is due.
 pub fn work<M: Machine>(
     rt: &HostRuntime,
@@ -45,17 +66,7 @@ pub fn work<M: Machine>(
     busy: u32,
     rounds: u64,
 ) -> anyhow::Result<(u64, u128)> {
-    let shard = shard_of(busy);
-    if shard >= SHARDS {
-        bail!("no shard");
-    }
-    let mut sum: u64 = 0;
-    let start = Instant::now(rt)?;
-    for _ in 0..rounds {
-        let next = machine.next_work(shard, Moment(CREATED));
-        sum = sum.wrapping_add(u64::from(inc_of(next)));
-    }
-    Ok((sum, start.elapsed(rt)?.as_nanos()))
+    work_at(rt, machine, busy, CREATED, rounds)
 }
 
 /// The update of the first schedule.

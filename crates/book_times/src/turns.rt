@@ -12,30 +12,23 @@ use step_scripts::{Replies, Swept, sweep_shard};
 const MINUTE: u64 = 60;
 
 /// When the busy schedule is due in a round.
-fn due_in(round: u64) -> u64 {
+pub fn due_in(round: u64) -> u64 {
     CREATED.saturating_add(round.saturating_mul(MINUTE))
 }
 
-/// Does all that is to be done in a shard.
-fn sweep_one<M: Machine>(
+/// Does all that is to be done in a shard, where the picker and the target answer so.
+pub fn sweep_one<M: Machine>(
     machine: &mut M,
     alloc: Global,
     shard: u8,
     at: u64,
-    status: u16,
+    replies: Replies,
 ) -> anyhow::Result<()> {
     if shard >= SHARDS {
         bail!("no shard");
     }
     let mut swept = Swept::NONE;
-    match sweep_shard(
-        machine,
-        alloc,
-        shard,
-        Moment(at),
-        Replies { word: 0, status },
-        &mut swept,
-    ) {
+    match sweep_shard(machine, alloc, shard, Moment(at), replies, &mut swept) {
         Ok(()) => Ok(()),
         Err(_) => bail!("not to be taken"),
     }
@@ -53,7 +46,8 @@ pub fn sweep<M: Machine>(
     let before = machine.length();
     let start = Instant::now(rt)?;
     for round in 0..rounds {
-        sweep_one(machine, rt.alloc(), shard, due_in(round), status)?;
+        let replies = Replies { word: 0, status };
+        sweep_one(machine, rt.alloc(), shard, due_in(round), replies)?;
     }
     let spent = start.elapsed(rt)?.as_nanos();
     Ok((machine.length().wrapping_sub(before), spent))
