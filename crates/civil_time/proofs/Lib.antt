@@ -1,0 +1,2 @@
+pub mod CivilSeconds
+mod OneOfEach
