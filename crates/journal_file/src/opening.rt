@@ -138,6 +138,13 @@ impl Opening {
         Ok(true)
     }
 
+    /// The offset of the next gate, in bytes.
+    pub fn at(&self) -> u64
+        ensures { result ≡ self.now.at }
+    {
+        self.at
+    }
+
     /// Whether the last call of `next` found the closed gate.
     pub fn is_closed(&self) -> bool
         ensures { result ≡ self.now.is_closed }

@@ -1,0 +1,4 @@
+pub mod RecordLemmas
+pub mod ChainLemmas
+pub mod ReadingLemmas
+pub mod ExampleLemmas
