@@ -9,9 +9,8 @@ use Rattle.expressions.specs.declared.expression.CronSets.{CronSets}
 use Rattle.plain_words.specs.Moments.{last_moment}
 use Rattle.cron_search.specs.CivilTime.{civil_second}
 use Rattle.cron_search.specs.Search.{IsFirstFit}
-use Rattle.zone_occ.specs.declared.scan.TheConstants.{FARTHEST}
 use Rattle.zone_occ.specs.ZoneText.{ZoneText}
-use Rattle.zone_occ.specs.Conversion.{IsNear}
+use Rattle.zone_occ.specs.Scan.{IsStart}
 use Rattle.zone_occ.specs.InstantFacts.{IsCronInstant}
 use Rattle.zone_occ.specs.FirstInstants.{IsNext, IsBare, complete_to, AreFirsts}
 use Rattle.zone_occ.specs.Window.{IsOffered}
@@ -127,9 +126,9 @@ before-more Has start from to max moment xs ys low known next early offered =
 
 -- ---- one scan of all minutes
 
-pub seen-none : (sets : CronSets) (zone : ZoneText) (cursor : Civil) (from to max : ℕ) → 1 ≤ max → IsNear zone → civil_second cursor ≡ from - FARTHEST → AreFirsts (IsSeen sets zone cursor) from to max []
-seen-none sets zone cursor from to max low near start =
-    firsts-none (IsSeen sets zone cursor) from to max low (λ x seen late high. none_seen sets zone cursor from x near start seen late)
+pub seen-none : (sets : CronSets) (zone : ZoneText) (cursor : Civil) (from to max : ℕ) → 1 ≤ max → IsStart zone from cursor → AreFirsts (IsSeen sets zone cursor) from to max []
+seen-none sets zone cursor from to max low start =
+    firsts-none (IsSeen sets zone cursor) from to max low (λ x seen late high. none_seen sets zone cursor from x start seen late)
 
 pub seen-more : (sets : CronSets) (zone : ZoneText) (cursor minute next : Civil) (from to max : ℕ) (xs ys : List ℕ) (look : Option ℕ) → 1 ≤ max → to ≤ last_moment → AreFirsts (IsSeen sets zone cursor) from to max xs → IsFirstFit sets cursor minute → civil_second next ≡ civil_second minute + 1 → IsSought zone minute from (complete_to max to xs) look → IsOffered max xs look ys → AreFirsts (IsSeen sets zone next) from to max ys
 seen-more sets zone cursor minute next from to max xs ys look low end known first one_more seek offered =

@@ -14,7 +14,7 @@ use Rattle.zone_occ.specs.Sides.{sides}
 use Rattle.zone_occ.specs.Conversion.{conv}
 use Rattle.zone_occ.specs.Instants.{is_instant}
 use Rattle.zone_occ.specs.ZoneCalendar.{zone_calendar, HasAtsInUtc, HasZones}
-use Rattle.zone_occ.proofs.CivilSeconds.{civil_second-high}
+use Rattle.civil_time.proofs.CivilSeconds.{civil_second-high}
 use Rattle.zone_occ.proofs.InstantLaws.{from_at, at_fact, at_real}
 
 conv_utc : (d : Civil) → conv utc d ≡ Some (pos (civil_second d) -ℤ pos 0)

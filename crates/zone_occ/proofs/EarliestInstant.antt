@@ -1,5 +1,5 @@
 -- The scan of a cron's minutes for the earliest instant: what is known when the minutes before a cursor were seen.
-use Rattle.std.proofs.Common.{◌≡◌, ◌⊎◌, ℕ, min, ◌+◌, ◌-◌, ◌<◌, ◌≤◌, pos, Option, Some, None, IfSome, IfNone, sym, ap, ◌∙◌, subst, inl, inr, arith}
+use Rattle.std.proofs.Common.{◌≡◌, ◌⊎◌, ℕ, min, ◌+◌, ◌<◌, ◌≤◌, pos, Option, Some, None, IfSome, IfNone, sym, ap, ◌∙◌, subst, inl, inr, arith}
 use Rattle.std.specs.Prelude.{unwrap_or}
 use Rattle.std.proofs.lemmas.Bool.{cases_lt}
 use Rattle.std.proofs.lemmas.Option.{same_Some, MatchOption-at_some}
@@ -12,10 +12,10 @@ use Rattle.plain_words.specs.Moments.{last_moment}
 use Rattle.cron_search.specs.CivilTime.{IsCivilSecond, civil_second}
 use Rattle.cron_search.specs.Search.{IsFittingMinute, IsFirstFit, IsNoLater}
 use Rattle.cron_search.proofs.InTime.{second_key-le}
-use Rattle.zone_occ.specs.declared.scan.TheConstants.{FARTHEST}
 use Rattle.zone_occ.specs.ZoneText.{ZoneText}
 use Rattle.zone_occ.specs.Sides.{sides}
-use Rattle.zone_occ.specs.Conversion.{conv, instant_by, IsNear}
+use Rattle.zone_occ.specs.Conversion.{conv, instant_by}
+use Rattle.zone_occ.specs.Scan.{IsStart}
 use Rattle.zone_occ.specs.InstantFacts.{IsCronInstant}
 use Rattle.zone_occ.specs.FirstInstants.{IsNext, HasNoNext, earlier}
 
@@ -58,12 +58,10 @@ seen_more sets zone cursor minute next moment first one_more seen =
           inr (same_instant zone minute seen.minute first.found.real seen.fitting.real same ∙ seen.shown)
     ]
 
--- the minutes that begin more than the farthest offset before a moment have no instant from it on
-pub none_seen : (sets : CronSets) (zone : ZoneText) (cursor : Civil) (from moment : ℕ) → IsNear zone → civil_second cursor ≡ from - FARTHEST → IsSeen sets zone cursor moment → from ≤ moment → ⊥
-none_seen sets zone cursor from moment near start seen late =
-    let within = near seen.minute (pos moment) seen.shown in
-    let before = seen.before in
-    omega (arith, signed_arith, within.0, within.1)
+-- the minutes before a start have no instant from its moment on
+pub none_seen : (sets : CronSets) (zone : ZoneText) (cursor : Civil) (from moment : ℕ) → IsStart zone from cursor → IsSeen sets zone cursor moment → from ≤ moment → ⊥
+none_seen sets zone cursor from moment start seen late =
+    omega (arith, seen.before, start seen.minute moment seen.fitting.real seen.shown late)
 
 -- what is known when the minutes before the cursor were seen: the earliest of their instants from `from` on
 pub record IsEarliest (sets : CronSets) (zone : ZoneText) (from : ℕ) (cursor : Civil) (earliest : Option ℕ) : Type 0 where
@@ -72,11 +70,11 @@ pub record IsEarliest (sets : CronSets) (zone : ZoneText) (from : ℕ) (cursor :
   pub least : (moment : ℕ) → IsSeen sets zone cursor moment → from ≤ moment → IsAtMost earliest moment
 
 -- nothing was seen
-pub begins : (sets : CronSets) (zone : ZoneText) (from : ℕ) (cursor : Civil) → IsNear zone → IsCivilSecond cursor → civil_second cursor ≡ from - FARTHEST → IsEarliest sets zone from cursor None
-begins sets zone from cursor near real start = record {
+pub begins : (sets : CronSets) (zone : ZoneText) (from : ℕ) (cursor : Civil) → IsCivilSecond cursor → IsStart zone from cursor → IsEarliest sets zone from cursor None
+begins sets zone from cursor real start = record {
   real = real;
   has = tt;
-  least = λ moment seen late. none_seen sets zone cursor from moment near start seen late;
+  least = λ moment seen late. none_seen sets zone cursor from moment start seen late;
 }
 
 -- the instant of a minute that is looked at, where it has one in a span

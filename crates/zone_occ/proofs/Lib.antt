@@ -1,7 +1,6 @@
 mod SidesLemmas
 mod NearLemmas
 mod AgreementLemmas
-mod CivilSeconds
 mod InstantLaws
 mod Steps
 mod EarliestInstant
@@ -9,3 +8,4 @@ mod WindowLemmas
 mod Batches
 mod Unique
 mod CalendarLaws
+mod SearchableLaws

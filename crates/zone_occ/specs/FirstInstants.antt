@@ -4,6 +4,7 @@ use Rattle.std.specs.List.{All, Contains}
 use Rattle.std.specs.List.Sorted.{IsStrictlyIncreasing}
 use Rattle.expressions.specs.declared.expression.Expr.{Expr}
 use Rattle.expressions.specs.declared.expression.Expr.TheVariants.{At, Rate, Cron}
+use Rattle.expressions.specs.Spelling.{IsValidExpression}
 use Rattle.cron_search.specs.CivilTime.{IsCivilSecond}
 use Rattle.zone_occ.specs.ZoneText.{ZoneText}
 use Rattle.zone_occ.specs.Instants.{is_instant}
@@ -13,6 +14,10 @@ abbrev pub IsSearchable : Expr → Type 0
 IsSearchable (At d) = IsCivilSecond d
 IsSearchable (Rate count unit) = 1 ≤ count
 IsSearchable (Cron sets) = Unit {0}
+
+-- each expression that some text spells can be searched
+abbrev pub IsValidSearchable : Type 0
+IsValidSearchable = (expr : Expr) → IsValidExpression expr → IsSearchable expr
 
 -- the moment is an instant of the expression in the zone, with this anchor
 abbrev pub IsInstant : Expr → ZoneText → ℕ → ℕ → Type 0

@@ -1,5 +1,6 @@
 pub mod ZoneText
 pub mod Sides
+pub mod Offsets
 pub mod Conversion
 pub mod Agreement
 pub mod ZoneBytes
@@ -10,4 +11,5 @@ pub mod Instants
 pub mod FirstInstants
 pub mod InstantFacts
 pub mod Window
+pub mod Scan
 pub mod ZoneCalendar

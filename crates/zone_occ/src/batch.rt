@@ -6,9 +6,9 @@ ghost use Rattle.zone_occ.specs.InstantFacts.{IsCronInstant};
 ghost use Rattle.zone_occ.specs.FirstInstants as firsts;
 ghost use Rattle.zone_occ.specs.FirstInstants.{IsSearchable, IsInstant, IsNext, IsBare, AreFirsts};
 
-use crate::civil_seconds::{civil_at, just_after};
+use crate::minutes::just_after;
 use crate::next::next_after;
-use crate::scan::{FARTHEST, instant_within, next_minute};
+use crate::scan::{instant_within, next_minute, scan_start};
 use crate::window::{complete_to, offer};
 use crate::zone::Zone;
 use expressions::{CronSets, Expr};
@@ -55,9 +55,8 @@ fn by_scan(
     requires max { 1 ≤ max }
     ensures { IfOk result (λ moments. AreFirsts (IsCronInstant sets.now zone.now) from to max moments.items) }
 {
-    zone.is_near();
     let mut moments = Vec::new(alloc);
-    let mut cursor = civil_at(from.saturating_sub(FARTHEST));
+    let mut cursor = scan_start(zone, from);
     while let Some(minute) = next_minute(
         sets,
         zone,

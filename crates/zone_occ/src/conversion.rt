@@ -1,38 +1,17 @@
-ghost use Rattle.std.specs.Prelude.{◌≡◌, ◌-ℤ◌, pos};
+ghost use Rattle.std.specs.Prelude.{◌≡◌, ◌-ℤ◌};
 ghost use Rattle.jiff_core.specs.Calendar.{IsWithin};
 ghost use Rattle.jiff_core.specs.DateTime.{civil_seconds};
-ghost use Rattle.cron_search.specs.CivilTime.{IsCivilSecond, civil_second};
+ghost use Rattle.cron_search.specs.CivilTime.{IsCivilSecond};
 ghost use Rattle.zone_occ.specs.Sides.{sides};
 ghost use Rattle.zone_occ.specs.Kind.{kind_text, sides_of};
 ghost use Rattle.zone_occ.specs.Conversion.{conv, instant_by};
 
 use crate::zone::{Kind, Zone};
+use civil_time::library_time;
 use expressions::Civil;
 use jiff_core::Offset;
-use jiff_core::civil::{Date, DateTime, Time};
+use jiff_core::civil::DateTime;
 use jiff_tz::AmbiguousOffset;
-
-/// The civil second as the library's.
-pub(crate) fn datetime(d: Civil) -> DateTime
-    requires { IsCivilSecond d }
-    ensures year { result.date.year ≡ pos d.year }
-    ensures second { civil_seconds result ≡ pos (civil_second d) }
-    ensures whole { result.time.subsec_nanosecond ≡ 0 }
-{
-    DateTime {
-        date: Date {
-            year: d.year as i16,
-            month: d.month,
-            day: d.day,
-        },
-        time: Time {
-            hour: d.hour,
-            minute: d.minute,
-            second: d.second,
-            subsec_nanosecond: 0,
-        },
-    }
-}
 
 /// The offsets at which the clocks of a zone show a whole second.
 fn offsets_at(kind: &Kind, datetime: DateTime) -> AmbiguousOffset
@@ -80,6 +59,6 @@ pub fn conv(zone: &Zone, d: Civil) -> Option<i64>
     requires { IsCivilSecond d }
     ensures { result ≡ conv zone.now d }
 {
-    let datetime = datetime(d);
+    let datetime = library_time(d);
     instant_of(datetime.to_second(), offsets_at(&zone.kind, datetime))
 }

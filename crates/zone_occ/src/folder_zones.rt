@@ -1,4 +1,4 @@
-ghost use Rattle.std.specs.Prelude.{◌≡◌, ◌≤◌, None, IfOk, vec_len};
+ghost use Rattle.std.specs.Prelude.{◌≡◌, ◌≤◌, None, IfOk, IfSome, vec_len};
 ghost use Rattle.zone_occ.specs.Files.{IsShort};
 
 use crate::zone_files::{LONGEST_ANSWER, ZoneAnswer, ZoneCallFault, ZoneFiles};
@@ -9,8 +9,9 @@ use std::marker::Model;
 use std::rt::Files;
 
 /// The files of a folder, each a zone with its path below the folder as its name. A name that is not
-/// found, that goes through a file or that is a folder is absent; every other refusal of the machine
-/// is a failed call. It tells nothing of what the files hold.
+/// found, that goes through a file or that is no regular file, as a folder, a pipe or a device, is
+/// absent, and what is no regular file is not opened; every other refusal of the machine is a failed
+/// call. It tells nothing of what the files hold.
 #[derive(Drop)]
 pub struct FolderZones<R> {
     rt: R,
@@ -46,16 +47,20 @@ impl<R: Files + AllocGlobal> FolderZones<R> {
     }
 }
 
-/// The first `LONGEST_ANSWER` bytes of a file, or all where there are fewer.
-fn read_front<R: Files + AllocGlobal>(rt: &R, path: &str) -> io::Result<Vec<u8>>
-    ensures { IfOk result (λ bytes. vec_len bytes ≤ LONGEST_ANSWER) }
+/// The first `LONGEST_ANSWER` bytes of a regular file, or all where there are fewer. Anything else is
+/// not opened, since a pipe without a writer would wait for one.
+fn read_front<R: Files + AllocGlobal>(rt: &R, path: &str) -> io::Result<Option<Vec<u8>>>
+    ensures { IfOk result (λ found. IfSome found (λ bytes. vec_len bytes ≤ LONGEST_ANSWER)) }
 {
+    if !fs::metadata(rt, path)?.is_file() {
+        return Ok(None);
+    }
     let mut bytes = Vec::new(rt.alloc());
     fs::open(rt, path)?
         .take(LONGEST_ANSWER as u64)
         .read_to_end(&mut bytes)?;
     bytes.truncate(LONGEST_ANSWER);
-    Ok(bytes)
+    Ok(Some(bytes))
 }
 
 /// The answer that a refusal of the machine is.
@@ -83,7 +88,8 @@ fn look_up<R: Files + AllocGlobal>(
         return Err(ZoneCallFault::OutOfMemory);
     };
     match read_front(rt, path.as_str()) {
-        Ok(bytes) => Ok(ZoneAnswer::Present(Blob::from_vec(bytes))),
+        Ok(Some(bytes)) => Ok(ZoneAnswer::Present(Blob::from_vec(bytes))),
+        Ok(None) => Ok(ZoneAnswer::Absent),
         Err(error) => refusal(error.kind()),
     }
 }

@@ -10,12 +10,14 @@
 
 mod batch;
 mod calendar;
-mod civil_seconds;
 mod conversion;
 mod folder_zones;
 mod map_zones;
+mod minutes;
 mod next;
+mod offset_bounds;
 mod scan;
+mod searchable;
 mod window;
 mod zone;
 mod zone_files;
@@ -26,5 +28,6 @@ pub use conversion::conv;
 pub use folder_zones::FolderZones;
 pub use map_zones::MapZones;
 pub use next::next_after;
+pub use searchable::valid_is_searchable;
 pub use zone::{Zone, ZoneFault};
 pub use zone_files::{LONGEST_ANSWER, NamedZone, ZoneAnswer, ZoneCallFault, ZoneFiles};

@@ -7,11 +7,14 @@ ghost use Rattle.zone_occ.specs.InstantFacts.{IsAtInstant, IsStep, IsRateInstant
 ghost use Rattle.zone_occ.specs.FirstInstants as firsts;
 ghost use Rattle.zone_occ.specs.FirstInstants.{IsSearchable, IsInstant, IsNext, HasNoNext};
 
-use crate::civil_seconds::{DAY_SECONDS, civil_at, just_after};
-use crate::scan::{FARTHEST, instant_within, next_minute};
+use crate::minutes::just_after;
+use crate::scan::{instant_within, next_minute, scan_start};
 use crate::zone::Zone;
 use expressions::{Civil, CronSets, Expr, Unit};
 use plain_words::LAST_MOMENT;
+
+/// The seconds of a day.
+const DAY_SECONDS: u64 = 86_400;
 
 /// The seconds of a unit.
 fn unit_seconds(unit: Unit) -> u64
@@ -87,15 +90,14 @@ fn earlier(a: Option<u64>, b: Option<u64>) -> Option<u64>
 }
 
 /// Looks at the fitting minutes whose instants may come at `from` or later and before the best one
-/// so far: those from 25:59:59 before to 25:59:59 after.
+/// so far: those from the zone's least offset after `from` to its greatest offset after that one.
 fn next_cron(sets: &CronSets, zone: &Zone, from: u64) -> Option<u64>
     requires { from ≤ last_moment }
     ensures found { IfSome result (IsNext (IsCronInstant sets.now zone.now) from) }
     ensures none { IfNone result (HasNoNext (IsCronInstant sets.now zone.now) from) }
 {
-    zone.is_near();
     let mut earliest = None;
-    let mut cursor = civil_at(from.saturating_sub(FARTHEST));
+    let mut cursor = scan_start(zone, from);
     while let Some(minute) = next_minute(sets, zone, cursor, earliest.unwrap_or(LAST_MOMENT)) {
         earliest = earlier(earliest, instant_within(zone, minute, from, LAST_MOMENT));
         cursor = just_after(minute);

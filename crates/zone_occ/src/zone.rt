@@ -7,18 +7,24 @@ ghost use Rattle.zone_occ.specs.ZoneBytes.{zone_of, read_zone, of_table, of_rule
 ghost use Rattle.zone_occ.specs.FileFault as faults;
 ghost use Rattle.zone_occ.specs.FileFault.{IsFileFault};
 ghost use Rattle.zone_occ.specs.Kind.{kind_text};
-ghost use Rattle.zone_occ.specs.Conversion.{IsNear};
+ghost use Rattle.zone_occ.specs.Offsets as offsets;
+ghost use Rattle.zone_occ.specs.Conversion.{IsNear, IsNearBy};
 
+use crate::offset_bounds::OffsetBounds;
 use jiff_core::Error;
 use jiff_tz::{Tzif, posix};
 use plain_words::LONGEST_ZONE;
 use std::alloc::Global;
 use std::marker::Model;
+use std::{error, fmt};
 
 /// The rules by which the clocks of a place run. Contracts see what its bytes say.
 #[derive(Debug, Drop)]
 pub struct Zone {
     pub(crate) kind: Kind,
+    /// The least and the greatest offset of this kind.
+    pub(crate) bounds: OffsetBounds,
+    ghost bounds_are: { bounds ≡ offsets.bounds (kind_text kind) },
 }
 
 /// Where the offsets of a zone come from.
@@ -52,6 +58,18 @@ pub enum ZoneFault {
     /// Memory was wanted for a zone file.
     OutOfMemory,
 }
+
+impl fmt::Display for ZoneFault {
+    fn fmt<W: fmt::Write>(&self, f: &mut fmt::Formatter<W>) -> fmt::Result {
+        match self {
+            ZoneFault::TooLong { len } => write!(f, "{len} bytes are too many for a zone"),
+            ZoneFault::NotAZone => write!(f, "neither a zone file nor a rule"),
+            ZoneFault::OutOfMemory => write!(f, "out of memory"),
+        }
+    }
+}
+
+impl error::Error for ZoneFault {}
 
 /// Whether the bytes are those of a zone file, which begins with `TZif`.
 fn is_file(bytes: &[u8]) -> bool
@@ -102,6 +120,13 @@ fn read_kind(alloc: Global, bytes: &[u8]) -> Result<Kind, ZoneFault>
 }
 
 impl Zone {
+    fn of_kind(kind: Kind) -> Zone
+        ensures { result ≡ kind_text kind }
+    {
+        let bounds = OffsetBounds::of_kind(&kind);
+        Zone { kind, bounds }
+    }
+
     /// Reads a zone from a zone file (TZif, RFC 9636), which begins with `TZif`, or from a POSIX rule
     /// such as `EST5EDT,M3.2.0,M11.1.0`. `TooLong` comes exactly above 65,536 bytes, `NotAZone` where
     /// the bytes are neither, and `OutOfMemory` only where they read as a zone file. A file whose rule
@@ -114,23 +139,31 @@ impl Zone {
             return Err(ZoneFault::TooLong { len: bytes.len() });
         }
         match read_kind(alloc, bytes) {
-            Ok(kind) => Ok(Zone { kind }),
+            Ok(kind) => Ok(Zone::of_kind(kind)),
             Err(fault) => Err(fault),
         }
     }
 
-    /// Costs nothing, and says that each instant of the zone lies within 25:59:59 of its civil second
-    /// read in UTC.
+    /// Costs nothing, and says that each instant of the zone lies between its least and its greatest
+    /// offset from its civil second read in UTC.
     pub fn is_near(&self)
         ensures { IsNear self.now }
     {
         let _kind = &self.kind;
     }
 
+    /// The least and the greatest offset of the zone.
+    pub(crate) fn bounds(&self) -> OffsetBounds
+        ensures value { result ≡ offsets.bounds self.now }
+        ensures near { IsNearBy result self.now }
+    {
+        self.bounds
+    }
+
     /// UTC, which is built in and has no bytes.
     pub fn utc() -> Zone
         ensures { result ≡ utc }
     {
-        Zone { kind: Kind::Utc }
+        Zone::of_kind(Kind::Utc)
     }
 }

@@ -5,6 +5,8 @@ ghost use Rattle.zone_occ.specs.Files.{IsTold, IsShort, IsCounted};
 
 use plain_words::{Blob, LONGEST_ZONE, TryCopy, ZoneName};
 use std::alloc::AllocError;
+use std::error::Error;
+use std::fmt;
 
 /// The most bytes of an answer: one more than a zone may have, so that too many show.
 pub const LONGEST_ANSWER: usize = LONGEST_ZONE + 1;
@@ -33,6 +35,17 @@ pub enum ZoneCallFault {
     /// Memory was wanted.
     OutOfMemory,
 }
+
+impl fmt::Display for ZoneCallFault {
+    fn fmt<W: fmt::Write>(&self, f: &mut fmt::Formatter<W>) -> fmt::Result {
+        match self {
+            ZoneCallFault::Failed => write!(f, "the source of zones failed"),
+            ZoneCallFault::OutOfMemory => write!(f, "out of memory"),
+        }
+    }
+}
+
+impl Error for ZoneCallFault {}
 
 impl TryCopy for NamedZone {
     fn copy(&self) -> Result<NamedZone, AllocError> {

@@ -75,7 +75,8 @@ fn write_file<R: Files + Abort + AllocGlobal>(rt: &R, folder: &str, name: &str, 
     fs::write(rt, path.as_str(), bytes).expect(rt, "a file");
 }
 
-/// Makes the folder anew, with zones, a folder that is none and a file that cannot be opened.
+/// Makes the folder anew, with zones, a link to one, a folder that is none, a device and a file that
+/// cannot be opened.
 fn fill<R: Files + Abort + AllocGlobal>(rt: &R, folder: &str, long: &[u8]) {
     if fs::exists(rt, folder).expect(rt, "a folder") {
         fs::remove_dir_all(rt, folder).expect(rt, "a folder");
@@ -87,6 +88,10 @@ fn fill<R: Files + Abort + AllocGlobal>(rt: &R, folder: &str, long: &[u8]) {
     write_file(rt, folder, "Long", long);
     let link = format!(in rt.alloc(); "{folder}/Loop").expect(rt, "memory");
     symlink(rt, "Loop", link.as_str()).expect(rt, "a link");
+    let device = format!(in rt.alloc(); "{folder}/Device").expect(rt, "memory");
+    symlink(rt, "/dev/null", device.as_str()).expect(rt, "a link");
+    let near = format!(in rt.alloc(); "{folder}/Alias").expect(rt, "memory");
+    symlink(rt, "America/New_York", near.as_str()).expect(rt, "a link");
 }
 
 #[test]
@@ -100,8 +105,10 @@ fn zones_in_a_folder(rt: HostRuntime) {
     fill(&rt, folder.as_str(), &long);
     let copy = format!(in rt.alloc(); "{folder}").expect(&rt, "memory");
     let mut zones = FolderZones::new(rt.clone().expect(&rt, "a handle"), copy);
-    let calls: [(&str, Wanted, u64); 8] = [
+    let calls: [(&str, Wanted, u64); 10] = [
         ("America/New_York", Wanted::Bytes(NEW_YORK), 0),
+        ("Alias", Wanted::Bytes(NEW_YORK), 0),
+        ("Device", Wanted::Nothing, 0),
         ("Empty", Wanted::Bytes(b""), 0),
         ("Nowhere", Wanted::Nothing, 0),
         ("Nowhere/New_York", Wanted::Nothing, 0),

@@ -1,17 +1,16 @@
 use Rattle.std.proofs.Common.{◌≡◌, ◌∙◌, ap, subst, arith}
 use Rattle.zone_occ.specs.FirstInstants.{complete_to}
-use Rattle.zone_occ.proofs.CivilSeconds.{civil_second-high}
+use Rattle.civil_time.proofs.CivilSeconds.{civil_second-high}
 use Rattle.zone_occ.proofs.EarliestInstant.{IsSought, IsPassed}
 use Rattle.zone_occ.proofs.Batches.{seen-none, seen-more, seen-all}
 use Rattle.zone_occ.proofs.batch.by_scan.Goals as goal
 
 pub loop-minute-init : goal.loop-minute-init
 loop-minute-init c =
-    let start = c.saturating_sub.ensures in
     record {
-      real = c.civil_at-cursor.ensures.real;
+      real = c.scan_start-cursor.ensures.real;
       firsts = rw c.new-moments.ensures.items
-          (seen-none c.args.sets.now c.args.zone.now c.civil_at-cursor.result c.args.from c.args.to c.args.max c.requires.max c.is_near.ensures (omega (arith, c.civil_at-cursor.ensures.value)));
+          (seen-none c.args.sets.now c.args.zone.now c.scan_start-cursor.result c.args.from c.args.to c.args.max c.requires.max c.scan_start-cursor.ensures.early);
     }
 
 pub loop-minute-smaller : goal.loop-minute-smaller

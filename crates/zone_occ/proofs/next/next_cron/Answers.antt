@@ -1,14 +1,13 @@
 use Rattle.std.proofs.Common.{subst, arith}
 use Rattle.std.specs.Prelude.{unwrap_or}
 use Rattle.plain_words.specs.Moments.{last_moment}
-use Rattle.zone_occ.proofs.CivilSeconds.{civil_second-high}
+use Rattle.civil_time.proofs.CivilSeconds.{civil_second-high}
 use Rattle.zone_occ.proofs.EarliestInstant.{IsPassed, begins, goes_on, ends-found, ends-none}
 use Rattle.zone_occ.proofs.next.next_cron.Goals as goal
 
 pub loop-minute-init : goal.loop-minute-init
 loop-minute-init c =
-    let start = c.saturating_sub.ensures in
-    begins c.args.sets.now c.args.zone.now c.args.from c.civil_at-cursor.result c.is_near.ensures c.civil_at-cursor.ensures.real (omega (arith, c.civil_at-cursor.ensures.value))
+    begins c.args.sets.now c.args.zone.now c.args.from c.scan_start-cursor.result c.scan_start-cursor.ensures.real c.scan_start-cursor.ensures.early
 
 pub loop-minute-smaller : goal.loop-minute-smaller
 loop-minute-smaller c =
