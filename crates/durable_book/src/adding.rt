@@ -1,5 +1,5 @@
 //! How a step is added: what is in doubt is settled, the step is judged, room is made for it, and it is kept.
-ghost use Rattle.std.specs.Prelude.{ℕ, ◌≡◌, ◌≤◌, OnOk, OnErr, IfErr};
+ghost use Rattle.std.specs.Prelude.{ℕ, ◌≡◌, ◌≤◌, None, OnOk, OnErr, IfErr};
 ghost use Rattle.outside.specs.Faults.{Rose};
 ghost use Rattle.sched_plain.specs.History.{History, ◌upon◌};
 ghost use Rattle.sched_plain.specs.Legal.{MayFollow};
@@ -11,6 +11,7 @@ ghost use Rattle.book_parts.specs.Stands.{calendar};
 ghost use Rattle.step_machine.specs.Ends.{IsEnd};
 ghost use Rattle.step_keeper.specs.Carrying.{Carries, CarriesTo, Shows, same};
 ghost use Rattle.durable_book.specs.Acts.{Puts, Refuses, IsCause, DiskRose};
+ghost use Rattle.durable_book.specs.Doubts.{IsOwn, IsOwnDoubt, IsLeft};
 ghost use Rattle.durable_book.specs.Faults.{IsOfEnding};
 ghost use Rattle.durable_book.specs.Keeping.{IsJudged, IsRule, IsUnkept, IsDenied};
 
@@ -24,6 +25,8 @@ use step_machine::{LegalFault, Machine};
 pub fn mend<K: Keeper>(keeper: &mut K) -> Result<(), DiskFault>
     ensures settled { OnOk result (Carries (K.held keeper.old) (K.stands keeper.new) (λ h. Finds h (K.doubt keeper.old))) }
     ensures torn { OnErr result (CarriesTo (K.held keeper.old) (K.held keeper.new) same) }
+    ensures doubt { OnOk result (K.doubt keeper.new ≡ None) }
+    ensures left { IsOwnDoubt (K.doubt keeper.old) → OnErr result (IsOwnDoubt (K.doubt keeper.new)) }
     ensures cause { OnErr result (Rose (K.faults keeper.old) (K.faults keeper.new)) }
     ensures early { Shows (K.held keeper.new) (λ h. moment h ≤ K.latest keeper.old) }
     ensures latest { K.latest keeper.new ≤ K.latest keeper.old }
@@ -51,6 +54,7 @@ pub(crate) fn judge<M: Machine>(machine: &M, step: &Step) -> Result<(), Denial>
 
 /// Keeps a step that may follow and has room.
 pub(crate) fn put<K: Keeper>(keeper: &mut K, step: Step) -> Result<(), Denial>
+    requires settled { K.doubt keeper.old ≡ None }
     requires valid { IsValid step }
     requires may { K.Book.may (K.book_of keeper.old) step }
     requires room { K.Book.has_room (K.book_of keeper.old) step }
@@ -58,6 +62,7 @@ pub(crate) fn put<K: Keeper>(keeper: &mut K, step: Step) -> Result<(), Denial>
     ensures stays { OnErr result (CarriesTo (K.stands keeper.old) (K.held keeper.new) same) }
     ensures cause { IfErr result (IsUnkept (K.full keeper.new step)) }
     ensures ends { IsEnd step → IfErr result IsOfEnding }
+    ensures left { IsOwn step → IfErr result (λ denial. IsLeft denial (K.doubt keeper.new)) }
     ensures disk { IfErr result (DiskRose (K.faults keeper.old) (K.faults keeper.new)) }
     ensures latest { K.latest keeper.old ≤ at_of step → K.latest keeper.new ≤ at_of step }
     ensures faults { K.faults keeper.old ≤ K.faults keeper.new }
@@ -71,11 +76,13 @@ pub(crate) fn put<K: Keeper>(keeper: &mut K, step: Step) -> Result<(), Denial>
 
 /// Makes room for a step that may follow, and keeps it.
 fn place<K: Keeper>(keeper: &mut K, step: Step) -> Result<(), Denial>
+    requires settled { K.doubt keeper.old ≡ None }
     requires valid { IsValid step }
     requires may { K.Book.may (K.book_of keeper.old) step }
     ensures kept { OnOk result (CarriesTo (K.stands keeper.old) (K.stands keeper.new) (λ h. step upon h)) }
     ensures stays { OnErr result (CarriesTo (K.stands keeper.old) (K.held keeper.new) same) }
     ensures cause { IfErr result (IsUnkept (K.full keeper.new step)) }
+    ensures left { IsOwn step → IfErr result (λ denial. IsLeft denial (K.doubt keeper.new)) }
     ensures disk { IfErr result (DiskRose (K.faults keeper.old) (K.faults keeper.new)) }
     ensures latest { K.latest keeper.old ≤ at_of step → K.latest keeper.new ≤ at_of step }
     ensures faults { K.faults keeper.old ≤ K.faults keeper.new }
@@ -90,10 +97,12 @@ fn place<K: Keeper>(keeper: &mut K, step: Step) -> Result<(), Denial>
 /// After a refusal the history is as it was; the step broke a rule, which is told, or may follow and has no room, or a call
 /// of the disk failed, or memory was wanted. The keeper's moment is then at most that of the step, if it was before.
 pub fn add<K: Keeper>(keeper: &mut K, step: Step) -> Result<(), Denial>
+    requires settled { K.doubt keeper.old ≡ None }
     requires valid { IsValid step }
     ensures kept { OnOk result (CarriesTo (K.stands keeper.old) (K.stands keeper.new) (λ h. step upon h)) }
     ensures stays { OnErr result (CarriesTo (K.stands keeper.old) (K.held keeper.new) same) }
     ensures cause { IfErr result (λ denial. Shows (K.stands keeper.old) (IsCause (K.full keeper.new) step denial)) }
+    ensures left { IsOwn step → IfErr result (λ denial. IsLeft denial (K.doubt keeper.new)) }
     ensures disk { IfErr result (DiskRose (K.faults keeper.old) (K.faults keeper.new)) }
     ensures latest { K.latest keeper.old ≤ at_of step → K.latest keeper.new ≤ at_of step }
     ensures faults { K.faults keeper.old ≤ K.faults keeper.new }
@@ -113,6 +122,7 @@ pub(crate) fn settle_and_add<K: Keeper>(keeper: &mut K, step: Step) -> Result<()
     requires later { K.latest keeper.old ≤ at_of step }
     ensures added { OnOk result (Carries (K.held keeper.old) (K.stands keeper.new) (Puts (K.doubt keeper.old) (λ h. step))) }
     ensures refused { IfErr result (λ denial. Carries (K.held keeper.old) (K.held keeper.new) (Refuses (K.doubt keeper.old) (IsDenied (K.full keeper.new) step denial))) }
+    ensures left { IsOwn step → IsOwnDoubt (K.doubt keeper.old) → IfErr result (λ denial. IsLeft denial (K.doubt keeper.new)) }
     ensures disk { IfErr result (DiskRose (K.faults keeper.old) (K.faults keeper.new)) }
     ensures latest { K.latest keeper.new ≤ at_of step }
     ensures faults { K.faults keeper.old ≤ K.faults keeper.new }

@@ -5,6 +5,7 @@ ghost use Rattle.sched_calls.specs.Serves.{next_number};
 ghost use Rattle.step_keeper.specs.Carrying.{Carries, LivesWhere};
 ghost use Rattle.durable_book.specs.Acts.{Refuses, DiskRose};
 ghost use Rattle.durable_book.specs.Causes.{Begins, IsUnbegun};
+ghost use Rattle.durable_book.specs.Doubts.{IsOwnDoubt, IsLeft};
 ghost use Rattle.durable_book.specs.Faults.{begin_denial};
 ghost use Rattle.durable_book.specs.Steps.{HasEntry};
 
@@ -46,6 +47,7 @@ pub fn begin<K: Keeper>(
     requires entered { LivesWhere (HasEntry inc instant) (K.held keeper.old) }
     ensures begun { IfOk result (λ ticket. Carries (K.held keeper.old) (K.stands keeper.new) (Begins (K.doubt keeper.old) at.0 inc instant epoch ticket)) }
     ensures refused { IfErr result (λ fault. Carries (K.held keeper.old) (K.held keeper.new) (Refuses (K.doubt keeper.old) (IsUnbegun (K.full keeper.new) at.0 inc instant epoch fault))) }
+    ensures left { IsOwnDoubt (K.doubt keeper.old) → IfErr result (λ fault. IsLeft (begin_denial fault) (K.doubt keeper.new)) }
     ensures disk { IfErr result (λ fault. DiskRose (K.faults keeper.old) (K.faults keeper.new) (begin_denial fault)) }
     ensures latest { K.latest keeper.new ≤ at.0 }
     ensures faults { K.faults keeper.old ≤ K.faults keeper.new }

@@ -7,6 +7,7 @@ ghost use Rattle.step_keeper.specs.Carrying.{Carries, LivesWhere};
 ghost use Rattle.durable_book.specs.Acts.{Puts, Refuses, DiskRose};
 ghost use Rattle.durable_book.specs.Causes.{IsUnclosed};
 ghost use Rattle.durable_book.specs.declared.denial.Denial.TheVariants as denials;
+ghost use Rattle.durable_book.specs.Doubts.{IsOwnDoubt, IsLeft};
 ghost use Rattle.durable_book.specs.Faults.{close_denial, IsOfClosing};
 ghost use Rattle.durable_book.specs.Steps.{HasEntry, standing_at, close_with};
 
@@ -64,6 +65,7 @@ pub fn close_one<K: Keeper>(
     requires entered { LivesWhere (HasEntry inc instant) (K.held keeper.old) }
     ensures closed { OnOk result (Carries (K.held keeper.old) (K.stands keeper.new) (Puts (K.doubt keeper.old) (λ h. close_with h at.0 inc instant))) }
     ensures refused { IfErr result (λ fault. Carries (K.held keeper.old) (K.held keeper.new) (Refuses (K.doubt keeper.old) (IsUnclosed (K.full keeper.new) at.0 inc instant fault))) }
+    ensures left { IsOwnDoubt (K.doubt keeper.old) → IfErr result (λ fault. IsLeft (close_denial fault) (K.doubt keeper.new)) }
     ensures disk { IfErr result (λ fault. DiskRose (K.faults keeper.old) (K.faults keeper.new) (close_denial fault)) }
     ensures latest { K.latest keeper.new ≤ at.0 }
     ensures faults { K.faults keeper.old ≤ K.faults keeper.new }

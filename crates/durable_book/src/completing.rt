@@ -2,6 +2,7 @@
 ghost use Rattle.std.specs.Prelude.{◌≤◌, OnOk, IfErr};
 ghost use Rattle.step_keeper.specs.Carrying.{Carries};
 ghost use Rattle.durable_book.specs.Acts.{Puts, Refuses, IsCause, DiskRose};
+ghost use Rattle.durable_book.specs.Doubts.{IsOwnDoubt, IsLeft};
 ghost use Rattle.durable_book.specs.Faults.{complete_denial};
 ghost use Rattle.durable_book.specs.Steps.{complete_of};
 
@@ -18,6 +19,7 @@ pub fn complete<K: Keeper>(keeper: &mut K, at: Moment, inc: u32) -> Result<(), C
     ensures completed { OnOk result (Carries (K.held keeper.old) (K.stands keeper.new) (Puts (K.doubt keeper.old) (λ h. complete_of at.0 inc))) }
     ensures refused { IfErr result (λ fault. Carries (K.held keeper.old) (K.held keeper.new)
         (Refuses (K.doubt keeper.old) (IsCause (K.full keeper.new) (complete_of at.0 inc) (complete_denial fault)))) }
+    ensures left { IsOwnDoubt (K.doubt keeper.old) → IfErr result (λ fault. IsLeft (complete_denial fault) (K.doubt keeper.new)) }
     ensures disk { IfErr result (λ fault. DiskRose (K.faults keeper.old) (K.faults keeper.new) (complete_denial fault)) }
     ensures latest { K.latest keeper.new ≤ at.0 }
     ensures faults { K.faults keeper.old ≤ K.faults keeper.new }

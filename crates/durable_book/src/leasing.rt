@@ -4,6 +4,7 @@ ghost use Rattle.sched_plain.specs.History.{History};
 ghost use Rattle.sched_plain.specs.Leases.{holder};
 ghost use Rattle.step_keeper.specs.Carrying.{Carries};
 ghost use Rattle.durable_book.specs.Acts.{Adds, Refuses, IsCause, DiskRose};
+ghost use Rattle.durable_book.specs.Doubts.{IsOwnDoubt, IsLeft};
 ghost use Rattle.durable_book.specs.Faults.{lease_denial};
 ghost use Rattle.durable_book.specs.Steps.{lease_of};
 
@@ -36,6 +37,7 @@ pub fn lease<K: Keeper>(
         (Adds (K.doubt keeper.old) (λ h. lease_of h at.0 shard worker) (λ h. epoch ≡ (holder h shard).epoch + 1))) }
     ensures refused { IfErr result (λ fault. Carries (K.held keeper.old) (K.held keeper.new)
         (Refuses (K.doubt keeper.old) (λ h. IsCause (K.full keeper.new) (lease_of h at.0 shard worker) (lease_denial fault) h))) }
+    ensures left { worker ≡ 0 → IsOwnDoubt (K.doubt keeper.old) → IfErr result (λ fault. IsLeft (lease_denial fault) (K.doubt keeper.new)) }
     ensures disk { IfErr result (λ fault. DiskRose (K.faults keeper.old) (K.faults keeper.new) (lease_denial fault)) }
     ensures latest { K.latest keeper.new ≤ at.0 }
     ensures faults { K.faults keeper.old ≤ K.faults keeper.new }

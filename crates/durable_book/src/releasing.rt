@@ -2,6 +2,7 @@
 ghost use Rattle.std.specs.Prelude.{◌<◌, ◌≤◌, OnOk, IfErr};
 ghost use Rattle.step_keeper.specs.Carrying.{Carries};
 ghost use Rattle.durable_book.specs.Acts.{Puts, Refuses, IsCause, DiskRose};
+ghost use Rattle.durable_book.specs.Doubts.{IsOwnDoubt, IsLeft};
 ghost use Rattle.durable_book.specs.Faults.{hold_denial};
 ghost use Rattle.durable_book.specs.Steps.{release_by};
 
@@ -25,6 +26,7 @@ pub fn release<K: Keeper>(
     ensures released { OnOk result (Carries (K.held keeper.old) (K.stands keeper.new) (Puts (K.doubt keeper.old) (λ h. release_by at.0 shard worker epoch))) }
     ensures refused { IfErr result (λ fault. Carries (K.held keeper.old) (K.held keeper.new)
         (Refuses (K.doubt keeper.old) (IsCause (K.full keeper.new) (release_by at.0 shard worker epoch) (hold_denial fault)))) }
+    ensures left { IsOwnDoubt (K.doubt keeper.old) → IfErr result (λ fault. IsLeft (hold_denial fault) (K.doubt keeper.new)) }
     ensures disk { IfErr result (λ fault. DiskRose (K.faults keeper.old) (K.faults keeper.new) (hold_denial fault)) }
     ensures latest { K.latest keeper.new ≤ at.0 }
     ensures faults { K.faults keeper.old ≤ K.faults keeper.new }

@@ -5,6 +5,7 @@ ghost use Rattle.sched_plain.specs.Leases.{holder, is_taker};
 ghost use Rattle.step_keeper.specs.Carrying.{Carries, Lives};
 ghost use Rattle.durable_book.specs.Acts.{Adds, Refuses, DiskRose};
 ghost use Rattle.durable_book.specs.Causes.{IsUnrenewed};
+ghost use Rattle.durable_book.specs.Doubts.{IsOwnDoubt, IsLeft};
 ghost use Rattle.durable_book.specs.Faults.{hold_denial};
 ghost use Rattle.durable_book.specs.Steps.{renewal_by};
 
@@ -45,6 +46,7 @@ pub fn renew<K: Keeper>(
         (Adds (K.doubt keeper.old) (λ h. renewal_by at.0 shard worker epoch) (λ h. until ≡ at.0 + LEASE_SECONDS))) }
     ensures refused { IfErr result (λ fault. Carries (K.held keeper.old) (K.held keeper.new)
         (Refuses (K.doubt keeper.old) (IsUnrenewed (K.full keeper.new) at.0 shard worker epoch fault))) }
+    ensures left { worker ≡ 0 → IsOwnDoubt (K.doubt keeper.old) → IfErr result (λ fault. IsLeft (hold_denial fault) (K.doubt keeper.new)) }
     ensures disk { IfErr result (λ fault. DiskRose (K.faults keeper.old) (K.faults keeper.new) (hold_denial fault)) }
     ensures latest { K.latest keeper.new ≤ at.0 }
     ensures faults { K.faults keeper.old ≤ K.faults keeper.new }

@@ -2,6 +2,7 @@
 ghost use Rattle.std.specs.Prelude.{◌<◌, ◌≤◌, OnOk, IfErr};
 ghost use Rattle.step_keeper.specs.Carrying.{Carries};
 ghost use Rattle.durable_book.specs.Acts.{Puts, Refuses, IsCause, DiskRose};
+ghost use Rattle.durable_book.specs.Doubts.{IsOwnDoubt, IsLeft};
 ghost use Rattle.durable_book.specs.Faults.{swept_denial};
 ghost use Rattle.durable_book.specs.Steps.{swept_of};
 
@@ -18,6 +19,7 @@ pub fn swept<K: Keeper>(keeper: &mut K, at: Moment, shard: u8) -> Result<(), Swe
     ensures swept { OnOk result (Carries (K.held keeper.old) (K.stands keeper.new) (Puts (K.doubt keeper.old) (λ h. swept_of at.0 shard))) }
     ensures refused { IfErr result (λ fault. Carries (K.held keeper.old) (K.held keeper.new)
         (Refuses (K.doubt keeper.old) (IsCause (K.full keeper.new) (swept_of at.0 shard) (swept_denial fault)))) }
+    ensures left { IsOwnDoubt (K.doubt keeper.old) → IfErr result (λ fault. IsLeft (swept_denial fault) (K.doubt keeper.new)) }
     ensures disk { IfErr result (λ fault. DiskRose (K.faults keeper.old) (K.faults keeper.new) (swept_denial fault)) }
     ensures latest { K.latest keeper.new ≤ at.0 }
     ensures faults { K.faults keeper.old ≤ K.faults keeper.new }

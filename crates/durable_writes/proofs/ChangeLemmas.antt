@@ -8,6 +8,7 @@ use Rattle.sched_plain.specs.Legal.{MayFollow}
 use Rattle.sched_plain.specs.Moments.{moment, at_of}
 use Rattle.sched_plain.specs.Validity.{IsValid, IsWrite}
 use Rattle.book_parts.specs.Stands.{calendar}
+use Rattle.durable_book.specs.Doubts.{IsOwn}
 use Rattle.write_plans.specs.declared.plan.Plan.TheVariants as plans
 use Rattle.write_plans.specs.Planning.{IsPlanned, change_at}
 use Rattle.write_plans.proofs.FollowLemmas.{ready_follows, ready_where_it_may}
@@ -26,3 +27,6 @@ change_follows h t write s is early =
 
 pub change_moment : (h : History) (t : ℕ) (write : Write) (s : Step) → IsPlanned calendar h t write (plans.Ready s) → at_of s ≡ t
 change_moment h t write s is = ap at_of (is_change h t write s is)
+
+pub change_own : (h : History) (t : ℕ) (write : Write) (s : Step) → IsPlanned calendar h t write (plans.Ready s) → IsOwn s
+change_own h t write s is = subst IsOwn (sym (is_change h t write s is)) tt

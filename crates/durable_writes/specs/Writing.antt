@@ -14,6 +14,7 @@ use Rattle.sched_calls.specs.declared.reply.Refusal.{Refusal}
 use Rattle.sched_calls.specs.declared.reply.Reply.{Reply}
 use Rattle.sched_calls.specs.Serves.{End, Finds, ZoneSource, ServesWrite, IsCutShort, needed_zone}
 use Rattle.book_parts.specs.Stands.{calendar}
+use Rattle.durable_book.specs.Doubts.{IsOwnDoubt}
 use Rattle.durable_writes.specs.declared.write_fault.WriteFault.{WriteFault}
 use Rattle.durable_writes.specs.declared.write_fault.WriteFault.TheVariants as faults
 use Rattle.durable_writes.specs.Words.{Draws}
@@ -70,6 +71,11 @@ abbrev pub HasRisen : ℕ → ℕ → ℕ → ℕ → WriteFault → Type 0
 HasRisen disk disk' zone zone' faults.DiskFault = Rose disk disk'
 HasRisen disk disk' zone zone' faults.ZoneFailed = Rose zone zone'
 HasRisen disk disk' zone zone' other = Unit {0}
+
+-- what a write that was not accepted leaves in doubt: only where the disk failed anything, and then no other worker's lease
+abbrev pub IsLeftBy : WriteFault → Option Step → Type 0
+IsLeftBy faults.DiskFault doubt = IsOwnDoubt doubt
+IsLeftBy other doubt = doubt ≡ None
 
 -- how a write that was not accepted ends: it is refused, and nothing was added; or it was cut
 abbrev pub EndsWrite : (Step → ℕ → ℕ → Type 0) → Option Step → ℕ → Write → Option (List NamedZone) → Option (List ℕ) → Option (List ℕ) → WriteFault → History → History → Type 0

@@ -9,6 +9,7 @@ ghost use Rattle.step_keeper.specs.Carrying.{CarriesTo, CarriesWhere, Lives, Liv
 ghost use Rattle.write_plans.specs.Planning.{IsPlanned};
 ghost use Rattle.write_plans.specs.declared.plan.Plan.TheVariants as plans;
 ghost use Rattle.durable_book.specs.Acts.{DiskRose, IsCause};
+ghost use Rattle.durable_book.specs.Doubts.{IsLeft};
 ghost use Rattle.durable_book.specs.Faults.{grow_denial};
 ghost use Rattle.durable_writes.specs.Leading.{IsUnhindered, IsAccepted, IsStopped};
 
@@ -39,6 +40,7 @@ fn change<K: Keeper>(
     ensures added { OnOk result (CarriesTo (K.stands keeper.old) (K.stands keeper.new) (λ h. ready upon h)) }
     ensures stays { OnErr result (CarriesTo (K.stands keeper.old) (K.held keeper.new) same) }
     ensures cause { IfErr result (λ fault. Shows (K.stands keeper.old) (IsCause (K.full keeper.new) ready (grow_denial fault))) }
+    ensures left { IfErr result (λ fault. IsLeft (grow_denial fault) (K.doubt keeper.new)) }
     ensures disk { IfErr result (λ fault. DiskRose (K.faults keeper.old) (K.faults keeper.new) (grow_denial fault)) }
     ensures latest { K.latest keeper.new ≤ at.0 }
     ensures faults { K.faults keeper.old ≤ K.faults keeper.new }
@@ -68,6 +70,7 @@ pub(crate) fn accept<K: Keeper, P: Picker>(
         (IsAccepted at.0 write.now (P.told picker.old) (P.told picker.new) reply)) }
     ensures stopped { IfErr result (λ fault. CarriesWhere (IsUnhindered write.now) (K.stands keeper.old) (K.held keeper.new)
         (IsStopped (K.full keeper.new) at.0 write.now (P.told picker.old) (P.told picker.new) fault)) }
+    ensures left { IfErr result (λ fault. IsLeft (grow_denial fault) (K.doubt keeper.new)) }
     ensures disk { IfErr result (λ fault. DiskRose (K.faults keeper.old) (K.faults keeper.new) (grow_denial fault)) }
     ensures latest { K.latest keeper.new ≤ at.0 }
     ensures faults { K.faults keeper.old ≤ K.faults keeper.new }

@@ -4,6 +4,7 @@ ghost use Rattle.sched_calls.specs.Serves.{wanted};
 ghost use Rattle.book_parts.specs.Stands.{calendar};
 ghost use Rattle.step_keeper.specs.Carrying.{Carries, Lives, Shows};
 ghost use Rattle.durable_book.specs.Acts.{DiskRose};
+ghost use Rattle.durable_book.specs.Doubts.{IsOwnDoubt, IsLeft};
 ghost use Rattle.durable_book.specs.Faults.{grow_denial};
 ghost use Rattle.durable_writes.specs.Entering.{Enters, LeavesUnentered};
 
@@ -33,6 +34,7 @@ fn enter_these<K: Keeper, P: Picker>(
         (Enters None at.0 inc (length instants.now) (P.told picker.old) (P.told picker.new))) }
     ensures refused { IfErr result (λ fault. Carries (K.stands keeper.old) (K.held keeper.new)
         (LeavesUnentered (K.full keeper.new) None at.0 inc (P.told picker.old) (P.told picker.new) fault)) }
+    ensures left { IfErr result (λ fault. IsLeft (grow_denial fault) (K.doubt keeper.new)) }
     ensures disk { IfErr result (λ fault. DiskRose (K.faults keeper.old) (K.faults keeper.new) (grow_denial fault)) }
     ensures latest { K.latest keeper.new ≤ at.0 }
     ensures faults { K.faults keeper.old ≤ K.faults keeper.new }
@@ -61,6 +63,7 @@ pub(crate) fn enter_found<K: Keeper, P: Picker>(
         (Enters None at.0 inc many (P.told picker.old) (P.told picker.new))) }
     ensures refused { IfErr result (λ fault. Carries (K.stands keeper.old) (K.held keeper.new)
         (LeavesUnentered (K.full keeper.new) None at.0 inc (P.told picker.old) (P.told picker.new) fault)) }
+    ensures left { IfErr result (λ fault. IsLeft (grow_denial fault) (K.doubt keeper.new)) }
     ensures disk { IfErr result (λ fault. DiskRose (K.faults keeper.old) (K.faults keeper.new) (grow_denial fault)) }
     ensures latest { K.latest keeper.new ≤ at.0 }
     ensures faults { K.faults keeper.old ≤ K.faults keeper.new }
@@ -94,6 +97,7 @@ pub fn enter<K: Keeper, P: Picker>(
         (Enters (K.doubt keeper.old) at.0 inc many (P.told picker.old) (P.told picker.new))) }
     ensures refused { IfErr result (λ fault. Carries (K.held keeper.old) (K.held keeper.new)
         (LeavesUnentered (K.full keeper.new) (K.doubt keeper.old) at.0 inc (P.told picker.old) (P.told picker.new) fault)) }
+    ensures left { IsOwnDoubt (K.doubt keeper.old) → IfErr result (λ fault. IsLeft (grow_denial fault) (K.doubt keeper.new)) }
     ensures disk { IfErr result (λ fault. DiskRose (K.faults keeper.old) (K.faults keeper.new) (grow_denial fault)) }
     ensures latest { K.latest keeper.new ≤ at.0 }
     ensures faults { K.faults keeper.old ≤ K.faults keeper.new }

@@ -11,7 +11,8 @@ ghost use Rattle.sweep_laws.specs.ValidLaws.{IsGood};
 ghost use Rattle.write_plans.specs.declared.plan.Plan.TheVariants as plans;
 ghost use Rattle.write_plans.specs.Planning.{IsPlanned};
 ghost use Rattle.durable_writes.specs.Leading.{IsUnhindered, IsAccepted, StopsWrite};
-ghost use Rattle.durable_writes.specs.Writing.{Writes, EndsWrite, HasRisen};
+ghost use Rattle.durable_book.specs.Doubts.{IsOwnDoubt};
+ghost use Rattle.durable_writes.specs.Writing.{Writes, EndsWrite, HasRisen, IsLeftBy};
 ghost use Rattle.durable_writes.specs.Zoning.{IsHad};
 
 use crate::accepting::accept;
@@ -43,6 +44,7 @@ fn write_free<K: Keeper, P: Picker>(
         (IsAccepted at.0 write.now (P.told picker.old) (P.told picker.new) reply)) }
     ensures stopped { IfErr result (λ fault. CarriesWhere (IsUnhindered write.now) (K.stands keeper.old) (K.held keeper.new)
         (StopsWrite (K.full keeper.new) at.0 write.now (P.told picker.old) (P.told picker.new) fault)) }
+    ensures left { IfErr result (λ fault. IsLeftBy fault (K.doubt keeper.new)) }
     ensures risen { IfErr result (λ fault. (zone zone' : ℕ) → HasRisen (K.faults keeper.old) (K.faults keeper.new) zone zone' fault) }
     ensures latest { K.latest keeper.new ≤ at.0 }
     ensures faults { K.faults keeper.old ≤ K.faults keeper.new }
@@ -73,6 +75,7 @@ fn write_with<K: Keeper, P: Picker>(
         (Writes None at.0 write.now zones (P.told picker.old) (P.told picker.new) (Good reply))) }
     ensures ended { IfErr result (λ fault. (zones : Perhaps (List NamedZone)) → IsHad zones name bytes → Carries (K.stands keeper.old) (K.held keeper.new)
         (EndsWrite (K.full keeper.new) None at.0 write.now zones (P.told picker.old) (P.told picker.new) fault)) }
+    ensures left { IfErr result (λ fault. IsLeftBy fault (K.doubt keeper.new)) }
     ensures risen { IfErr result (λ fault. (zone zone' : ℕ) → HasRisen (K.faults keeper.old) (K.faults keeper.new) zone zone' fault) }
     ensures latest { K.latest keeper.new ≤ at.0 }
     ensures faults { K.faults keeper.old ≤ K.faults keeper.new }
@@ -102,6 +105,7 @@ fn write_zoned<K: Keeper, Z: ZoneFiles, P: Picker>(
         (Writes None at.0 write.now (Z.told zones.old) (P.told picker.old) (P.told picker.new) (Good reply))) }
     ensures ended { IfErr result (λ fault. Carries (K.stands keeper.old) (K.held keeper.new)
         (EndsWrite (K.full keeper.new) None at.0 write.now (Z.told zones.old) (P.told picker.old) (P.told picker.new) fault)) }
+    ensures left { IfErr result (λ fault. IsLeftBy fault (K.doubt keeper.new)) }
     ensures risen { IfErr result (HasRisen (K.faults keeper.old) (K.faults keeper.new) (Z.faults zones.old) (Z.faults zones.new)) }
     ensures zones { Z.told zones.new ≡ Z.told zones.old }
     ensures zone_faults { Z.faults zones.old ≤ Z.faults zones.new }
@@ -133,6 +137,7 @@ fn write_planned<K: Keeper, Z: ZoneFiles, P: Picker>(
         (Writes None at.0 write.now (Z.told zones.old) (P.told picker.old) (P.told picker.new) (Good reply))) }
     ensures ended { IfErr result (λ fault. Carries (K.stands keeper.old) (K.held keeper.new)
         (EndsWrite (K.full keeper.new) None at.0 write.now (Z.told zones.old) (P.told picker.old) (P.told picker.new) fault)) }
+    ensures left { IfErr result (λ fault. IsLeftBy fault (K.doubt keeper.new)) }
     ensures risen { IfErr result (HasRisen (K.faults keeper.old) (K.faults keeper.new) (Z.faults zones.old) (Z.faults zones.new)) }
     ensures zones { Z.told zones.new ≡ Z.told zones.old }
     ensures zone_faults { Z.faults zones.old ≤ Z.faults zones.new }
@@ -165,6 +170,7 @@ fn write_found<K: Keeper, Z: ZoneFiles, P: Picker>(
         (Writes None at.0 write.now (Z.told zones.old) (P.told picker.old) (P.told picker.new) (Good reply))) }
     ensures ended { IfErr result (λ fault. Carries (K.stands keeper.old) (K.held keeper.new)
         (EndsWrite (K.full keeper.new) None at.0 write.now (Z.told zones.old) (P.told picker.old) (P.told picker.new) fault)) }
+    ensures left { IfErr result (λ fault. IsLeftBy fault (K.doubt keeper.new)) }
     ensures risen { IfErr result (HasRisen (K.faults keeper.old) (K.faults keeper.new) (Z.faults zones.old) (Z.faults zones.new)) }
     ensures zones { Z.told zones.new ≡ Z.told zones.old }
     ensures zone_faults { Z.faults zones.old ≤ Z.faults zones.new }
@@ -195,6 +201,7 @@ pub fn do_write<K: Keeper, Z: ZoneFiles, P: Picker>(
         (Writes (K.doubt keeper.old) at.0 write.now (Z.told zones.old) (P.told picker.old) (P.told picker.new) (Good reply))) }
     ensures ended { IfErr result (λ fault. Carries (K.held keeper.old) (K.held keeper.new)
         (EndsWrite (K.full keeper.new) (K.doubt keeper.old) at.0 write.now (Z.told zones.old) (P.told picker.old) (P.told picker.new) fault)) }
+    ensures left { IsOwnDoubt (K.doubt keeper.old) → IfErr result (λ fault. IsLeftBy fault (K.doubt keeper.new)) }
     ensures risen { IfErr result (HasRisen (K.faults keeper.old) (K.faults keeper.new) (Z.faults zones.old) (Z.faults zones.new)) }
     ensures zones { Z.told zones.new ≡ Z.told zones.old }
     ensures zone_faults { Z.faults zones.old ≤ Z.faults zones.new }

@@ -1,6 +1,7 @@
 mod ServingStill
 mod ServingQuiet
 mod ServingZones
+mod ServingDoubts
 mod ServingLemmas
 mod ServingRequests
 mod AnswerLemmas

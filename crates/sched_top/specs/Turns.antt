@@ -1,6 +1,6 @@
 -- One request answered over what a keeper stands for: which history was found, what came from outside meanwhile, and the
 -- response.
-use Rattle.std.specs.Prelude.{ℕ, Option, List, ◌++◌}
+use Rattle.std.specs.Prelude.{◌≡◌, ◌⊎◌, ℕ, Option, None, List, ◌++◌}
 use Rattle.outside.specs.Faults.{Rose}
 use Rattle.zone_occ.specs.declared.zone_files.NamedZone.{NamedZone}
 use Rattle.target_link.specs.declared.link.Sent.{Sent}
@@ -9,6 +9,7 @@ use Rattle.sched_plain.specs.declared.step.Step.{Step}
 use Rattle.sched_plain.specs.History.{History}
 use Rattle.sched_calls.specs.Serves.{Finds}
 use Rattle.sweep_laws.specs.KeptLaws.{NoOtherHolds}
+use Rattle.durable_book.specs.Doubts.{IsOwnDoubt}
 use Rattle.timer_work.specs.Swept.{Sends}
 use Rattle.http_wire.specs.declared.request.HttpRequest.{HttpRequest}
 use Rattle.http_wire.specs.Response.{memory_text}
@@ -52,3 +53,12 @@ pub record Turn (full : Step → ℕ → ℕ → Type 0) (failed : Type 0) (zone
 abbrev pub ZonesRose : ℕ → ℕ → Response → Type 0
 ZonesRose before now (responses.ZonesFailed text) = Rose before now
 ZonesRose before now response = Unit {0}
+
+-- what a request leaves in doubt, by how it was answered and what was in doubt before. Where a call of the disk failed a step may
+-- be in doubt that was not before; this is told, unless memory was wanted for that
+abbrev pub LeavesDoubt : Option Step → Kind → Option Step → Type 0
+LeavesDoubt doubt Served left = (left ≡ None) ⊎ (left ≡ doubt)
+LeavesDoubt doubt ShortOfMemory left = IsOwnDoubt left
+LeavesDoubt doubt ZonesFailed left = (left ≡ None) ⊎ (left ≡ doubt)
+LeavesDoubt doubt JournalFull left = (left ≡ None) ⊎ (left ≡ doubt)
+LeavesDoubt doubt DiskFailed left = IsOwnDoubt left

@@ -7,11 +7,12 @@ ghost use Rattle.zone_occ.specs.declared.zone_files.NamedZone.{NamedZone};
 ghost use Rattle.sched_calls.specs.Replies.{answer_to};
 ghost use Rattle.step_keeper.specs.Carrying.{CarriesWhere, LivesWhere};
 ghost use Rattle.target_link.specs.declared.link.Sent.{Sent};
+ghost use Rattle.durable_book.specs.Doubts.{IsOwnDoubt};
 ghost use Rattle.timer_work.specs.Swept.{IsFree};
 ghost use Rattle.request_calls.specs.Calls.{call_of};
 ghost use Rattle.request_calls.specs.Validity.{IsSoundCall};
 ghost use Rattle.sched_top.specs.Serving.{Served, answer_text, later_of};
-ghost use Rattle.sched_top.specs.Turns.{Turn, Outside, ZonesRose};
+ghost use Rattle.sched_top.specs.Turns.{Turn, Outside, ZonesRose, LeavesDoubt, kind_of};
 ghost use Rattle.sched_top.specs.Asking.{IsTold, AskedTurn};
 
 mod response;
@@ -50,6 +51,7 @@ fn serve_write<K: Keeper, Z: ZoneFiles, P: Picker>(
     ensures turn { (sent : Perhaps (List Sent)) → CarriesWhere (IsFree (K.doubt keeper.old) at.0) (K.held keeper.old) (K.held keeper.new)
         (AskedTurn (K.full keeper.new) (Rose (K.faults keeper.old) (K.faults keeper.new)) (Z.told zones.old) (K.doubt keeper.old) (Good (Call.Write write.now)) at.0
         (record { words = P.told picker.old; sent = sent }) (record { words = P.told picker.new; sent = sent }) result) }
+    ensures left { IsOwnDoubt (K.doubt keeper.old) → LeavesDoubt (K.doubt keeper.old) (kind_of result) (K.doubt keeper.new) }
     ensures zones_rose { ZonesRose (Z.faults zones.old) (Z.faults zones.new) result }
     ensures zones { Z.told zones.new ≡ Z.told zones.old }
     ensures zone_faults { Z.faults zones.old ≤ Z.faults zones.new }
@@ -76,6 +78,7 @@ fn serve_read<K: Keeper>(alloc: Global, keeper: &mut K, at: Moment, read: &Read)
     requires later { K.latest keeper.old ≤ at.0 }
     ensures turn { (zones : Perhaps (List NamedZone)) (told : Outside) → CarriesWhere (IsFree (K.doubt keeper.old) at.0) (K.held keeper.old) (K.held keeper.new)
         (AskedTurn (K.full keeper.new) (Rose (K.faults keeper.old) (K.faults keeper.new)) zones (K.doubt keeper.old) (Good (Call.Read read.now)) at.0 told told result) }
+    ensures left { IsOwnDoubt (K.doubt keeper.old) → LeavesDoubt (K.doubt keeper.old) (kind_of result) (K.doubt keeper.new) }
     ensures zones_rose { (before now : ℕ) → ZonesRose before now result }
     ensures latest { K.latest keeper.new ≤ at.0 }
     ensures faults { K.faults keeper.old ≤ K.faults keeper.new }
@@ -100,6 +103,7 @@ fn serve_sweep<K: Keeper, P: Picker, L: Link>(
     ensures turn { (zones : Perhaps (List NamedZone)) → CarriesWhere (IsFree (K.doubt keeper.old) at.0) (K.held keeper.old) (K.held keeper.new)
         (AskedTurn (K.full keeper.new) (Rose (K.faults keeper.old) (K.faults keeper.new)) zones (K.doubt keeper.old) (Good Call.Sweep) at.0
         (record { words = P.told picker.old; sent = L.told link.old }) (record { words = P.told picker.new; sent = L.told link.new }) result) }
+    ensures left { IsOwnDoubt (K.doubt keeper.old) → LeavesDoubt (K.doubt keeper.old) (kind_of result) (K.doubt keeper.new) }
     ensures zones_rose { (before now : ℕ) → ZonesRose before now result }
     ensures latest { K.latest keeper.new ≤ at.0 }
     ensures faults { K.faults keeper.old ≤ K.faults keeper.new }
@@ -128,6 +132,7 @@ fn serve<K: Keeper, Z: ZoneFiles, P: Picker, L: Link>(
     ensures turn { CarriesWhere (IsFree (K.doubt keeper.old) at.0) (K.held keeper.old) (K.held keeper.new)
         (AskedTurn (K.full keeper.new) (Rose (K.faults keeper.old) (K.faults keeper.new)) (Z.told zones.old) (K.doubt keeper.old) (Good call.now) at.0
         (record { words = P.told picker.old; sent = L.told link.old }) (record { words = P.told picker.new; sent = L.told link.new }) result) }
+    ensures left { IsOwnDoubt (K.doubt keeper.old) → LeavesDoubt (K.doubt keeper.old) (kind_of result) (K.doubt keeper.new) }
     ensures zones_rose { ZonesRose (Z.faults zones.old) (Z.faults zones.new) result }
     ensures zones { Z.told zones.new ≡ Z.told zones.old }
     ensures zone_faults { Z.faults zones.old ≤ Z.faults zones.new }
@@ -158,6 +163,7 @@ fn respond<K: Keeper, Z: ZoneFiles, P: Picker, L: Link>(
     ensures turn { CarriesWhere (IsFree (K.doubt keeper.old) at.0) (K.held keeper.old) (K.held keeper.new)
         (AskedTurn (K.full keeper.new) (Rose (K.faults keeper.old) (K.faults keeper.new)) (Z.told zones.old) (K.doubt keeper.old) (call_of request.now true) at.0
         (record { words = P.told picker.old; sent = L.told link.old }) (record { words = P.told picker.new; sent = L.told link.new }) result) }
+    ensures left { IsOwnDoubt (K.doubt keeper.old) → LeavesDoubt (K.doubt keeper.old) (kind_of result) (K.doubt keeper.new) }
     ensures zones_rose { ZonesRose (Z.faults zones.old) (Z.faults zones.new) result }
     ensures zones { Z.told zones.new ≡ Z.told zones.old }
     ensures zone_faults { Z.faults zones.old ≤ Z.faults zones.new }
@@ -197,6 +203,7 @@ pub(crate) fn answer<K: Keeper, Z: ZoneFiles, P: Picker, L: Link>(
     ensures turn { CarriesWhere (IsFree (K.doubt keeper.old) now.old.0) (K.held keeper.old) (K.held keeper.new)
         (Turn (K.full keeper.new) (Rose (K.faults keeper.old) (K.faults keeper.new)) (Z.told zones.old) (K.doubt keeper.old) now.old.0 request.now now.new.0
         (record { words = P.told picker.old; sent = L.told link.old }) (record { words = P.told picker.new; sent = L.told link.new }) result) }
+    ensures left { IsOwnDoubt (K.doubt keeper.old) → LeavesDoubt (K.doubt keeper.old) (kind_of result) (K.doubt keeper.new) }
     ensures zones_rose { ZonesRose (Z.faults zones.old) (Z.faults zones.new) result }
     ensures zones { Z.told zones.new ≡ Z.told zones.old }
     ensures zone_faults { Z.faults zones.old ≤ Z.faults zones.new }

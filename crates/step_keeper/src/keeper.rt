@@ -9,7 +9,7 @@ ghost use Rattle.sched_calls.specs.Serves.{Finds};
 ghost use Rattle.step_machine.specs.Ends.{IsEnd};
 ghost use Rattle.step_keeper.specs.declared.fault.KeepFault.TheVariants as whys;
 ghost use Rattle.step_keeper.specs.Carrying.{Start, Carries, CarriesTo, Shows, same};
-ghost use Rattle.step_keeper.specs.Faults.{Cause};
+ghost use Rattle.step_keeper.specs.Faults.{Cause, Leaves};
 
 use crate::fault::{DiskFault, KeepFault};
 use sched_plain::{Moment, Step};
@@ -51,13 +51,16 @@ pub trait Keeper {
     fn moment(&self) -> Moment
         ensures { result.0 ≡ latest self.now };
 
-    /// Makes room for a step that may follow. It fails only for want of memory, and the history is the same either way.
+    /// Makes room for a step that may follow, where no step is in doubt. It fails only for want of memory, and the history is the
+    /// same either way.
     fn reserve(&mut self, step: &Step) -> Result<(), AllocError>
+        requires settled { doubt self.old ≡ None }
         requires valid { IsValid step.now }
         requires may { Self.Book.may (book_of self.old) step.now }
         ensures stands { CarriesTo (stands self.old) (stands self.new) same }
         ensures may { (s : Step) → Self.Book.may (book_of self.old) s → Self.Book.may (book_of self.new) s }
         ensures room { OnOk result (Self.Book.has_room (book_of self.new) step.now) }
+        ensures doubt { doubt self.new ≡ None }
         ensures latest { latest self.new ≡ latest self.old }
         ensures faults { faults self.new ≡ faults self.old };
 
@@ -66,18 +69,24 @@ pub trait Keeper {
     fn settle(&mut self) -> Result<(), DiskFault>
         ensures settled { OnOk result (Carries (held self.old) (stands self.new) (λ h. Finds h (doubt self.old))) }
         ensures torn { OnErr result (CarriesTo (held self.old) (held self.new) same) }
+        ensures doubt { OnOk result (doubt self.new ≡ None) }
+        ensures stays { OnErr result (doubt self.new ≡ doubt self.old) }
         ensures cause { OnErr result (Rose (faults self.old) (faults self.new)) }
         ensures latest { latest self.new ≤ latest self.old }
         ensures faults { faults self.old ≤ faults self.new };
 
-    /// Keeps a step that may follow, and takes it: it stands upon the history, or the history is as it was, and the step is
-    /// perhaps in doubt. Takes no memory. An End is never Full: its Begin left room for it.
+    /// Keeps a step that may follow, where no step is in doubt, and takes it: it stands upon the history, or the history is as it
+    /// was. Only where a call of the disk failed is it perhaps in doubt. Takes no memory. An End is never Full: its Begin left
+    /// room for it.
     fn take(&mut self, step: Step) -> Result<(), KeepFault>
+        requires settled { doubt self.old ≡ None }
         requires valid { IsValid step }
         requires may { Self.Book.may (book_of self.old) step }
         requires room { Self.Book.has_room (book_of self.old) step }
         ensures taken { OnOk result (CarriesTo (stands self.old) (stands self.new) (λ h. step upon h)) }
         ensures refused { OnErr result (CarriesTo (stands self.old) (held self.new) same) }
+        ensures doubt { OnOk result (doubt self.new ≡ None) }
+        ensures left { IfErr result (λ fault. Leaves fault step (doubt self.new)) }
         ensures cause { IfErr result (Cause (full self.new step) (faults self.old) (faults self.new)) }
         ensures ends { IsEnd step → IfErr result (λ fault. fault ≡ whys.DiskFault) }
         ensures latest { latest self.old ≤ at_of step → latest self.new ≤ at_of step }

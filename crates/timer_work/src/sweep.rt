@@ -6,6 +6,7 @@ ghost use Rattle.std.specs.Prelude.{◌≤◌, [], OnOk, IfErr};
 ghost use Rattle.sched_calls.specs.Serves.{all_shards};
 ghost use Rattle.step_keeper.specs.Carrying.{CarriesWhere, LivesWhere};
 ghost use Rattle.durable_book.specs.Acts.{DiskRose};
+ghost use Rattle.durable_book.specs.Doubts.{IsOwnDoubt, IsLeft};
 ghost use Rattle.durable_book.specs.Faults.{grow_denial};
 ghost use Rattle.timer_work.specs.Swept.{IsFree, SweepsAll, CutsSweep};
 ghost use Rattle.timer_work.specs.Going.{outside};
@@ -40,6 +41,7 @@ fn sweep_shards<K: Keeper, P: Picker, L: Link>(
     requires lives { LivesWhere (Fit at.0 (Before all_shards)) (K.stands keeper.old) }
     ensures went { Moves (K.stands keeper.old) (K.stands keeper.new) (K.held keeper.new) (K.full keeper.new) at.0
         (Before all_shards) (outside (P.told picker.old) (L.told link.old)) (Before []) (outside (P.told picker.new) (L.told link.new)) result }
+    ensures left { IfErr result (λ fault. IsLeft (grow_denial fault) (K.doubt keeper.new)) }
     ensures disk { IfErr result (λ fault. DiskRose (K.faults keeper.old) (K.faults keeper.new) (grow_denial fault)) }
     ensures latest { K.latest keeper.new ≤ at.0 }
     ensures faults { K.faults keeper.old ≤ K.faults keeper.new }
@@ -69,6 +71,7 @@ pub fn sweep_all<K: Keeper, P: Picker, L: Link>(
         (SweepsAll (K.doubt keeper.old) at.0 (P.told picker.old) (P.told picker.new) (L.told link.old) (L.told link.new))) }
     ensures cut { IfErr result (λ fault. CarriesWhere (IsFree (K.doubt keeper.old) at.0) (K.held keeper.old) (K.held keeper.new)
         (CutsSweep (K.full keeper.new) (K.doubt keeper.old) at.0 (P.told picker.old) (P.told picker.new) (L.told link.old) (L.told link.new) fault)) }
+    ensures left { IsOwnDoubt (K.doubt keeper.old) → IfErr result (λ fault. IsLeft (grow_denial fault) (K.doubt keeper.new)) }
     ensures disk { IfErr result (λ fault. DiskRose (K.faults keeper.old) (K.faults keeper.new) (grow_denial fault)) }
     ensures latest { K.latest keeper.new ≤ at.0 }
     ensures faults { K.faults keeper.old ≤ K.faults keeper.new }

@@ -8,6 +8,7 @@ ghost use Rattle.sched_calls.specs.Serves.{next_number};
 ghost use Rattle.step_keeper.specs.Carrying.{CarriesTo, LivesWhere, Shows, same};
 ghost use Rattle.durable_book.specs.declared.grow_fault.GrowFault.TheVariants as grows;
 ghost use Rattle.durable_book.specs.Acts.{DiskRose};
+ghost use Rattle.durable_book.specs.Doubts.{IsLeft};
 ghost use Rattle.durable_book.specs.Faults.{grow_denial};
 ghost use Rattle.durable_book.specs.Steps.{end_with};
 ghost use Rattle.timer_work.specs.Swept.{IsCauseOfStop};
@@ -57,6 +58,7 @@ fn begin_next<K: Keeper>(
     ensures begun { IfOk result (Begins (K.stands keeper.old) (K.stands keeper.new) at.0 inc instant) }
     ensures stays { OnErr result (CarriesTo (K.stands keeper.old) (K.held keeper.new) same) }
     ensures cause { IfErr result (λ fault. Shows (K.stands keeper.old) (IsCauseOfStop (K.full keeper.new) fault)) }
+    ensures left { IfErr result (λ fault. IsLeft (grow_denial fault) (K.doubt keeper.new)) }
     ensures disk { IfErr result (λ fault. DiskRose (K.faults keeper.old) (K.faults keeper.new) (grow_denial fault)) }
     ensures latest { K.latest keeper.new ≤ at.0 }
     ensures faults { K.faults keeper.old ≤ K.faults keeper.new }
@@ -83,6 +85,7 @@ fn end_next<K: Keeper>(
     ensures ended { OnOk result (CarriesTo (K.stands keeper.old) (K.stands keeper.new) (λ h. end_with at.0 ticket verdict status upon h)) }
     ensures stays { OnErr result (CarriesTo (K.stands keeper.old) (K.held keeper.new) same) }
     ensures cause { IfErr result (λ fault. fault ≡ grows.DiskFault) }
+    ensures left { IfErr result (λ fault. IsLeft (grow_denial fault) (K.doubt keeper.new)) }
     ensures disk { IfErr result (λ fault. DiskRose (K.faults keeper.old) (K.faults keeper.new) (grow_denial fault)) }
     ensures latest { K.latest keeper.new ≤ at.0 }
     ensures faults { K.faults keeper.old ≤ K.faults keeper.new }
@@ -109,6 +112,7 @@ fn attempt_ready<K: Keeper, L: Link>(
     requires room { HasRoom (L.sends_left link.old) (L.most_bytes link.old) request }
     ensures done { (words : Perhaps (List ℕ)) → Handles (K.stands keeper.old) (K.stands keeper.new) (K.held keeper.new) (K.full keeper.new) at.0 (Begin inc instant)
         (outside words (L.told link.old)) (outside words (L.told link.new)) result }
+    ensures left { IfErr result (λ fault. IsLeft (grow_denial fault) (K.doubt keeper.new)) }
     ensures disk { IfErr result (λ fault. DiskRose (K.faults keeper.old) (K.faults keeper.new) (grow_denial fault)) }
     ensures latest { K.latest keeper.new ≤ at.0 }
     ensures faults { K.faults keeper.old ≤ K.faults keeper.new }
@@ -139,6 +143,7 @@ pub(crate) fn attempt<K: Keeper, L: Link>(
     requires wanted { (shard : ℕ) × Wants (K.stands keeper.old) at.0 shard (Begin inc instant) }
     ensures done { (words : Perhaps (List ℕ)) → Handles (K.stands keeper.old) (K.stands keeper.new) (K.held keeper.new) (K.full keeper.new) at.0 (Begin inc instant)
         (outside words (L.told link.old)) (outside words (L.told link.new)) result }
+    ensures left { IfErr result (λ fault. IsLeft (grow_denial fault) (K.doubt keeper.new)) }
     ensures disk { IfErr result (λ fault. DiskRose (K.faults keeper.old) (K.faults keeper.new) (grow_denial fault)) }
     ensures latest { K.latest keeper.new ≤ at.0 }
     ensures faults { K.faults keeper.old ≤ K.faults keeper.new }

@@ -6,6 +6,7 @@ ghost use Rattle.sched_plain.specs.declared.outcome.Reason.{Reason};
 ghost use Rattle.sched_plain.specs.declared.work.Work.TheVariants.{Enter, Close, Complete};
 ghost use Rattle.target_link.specs.declared.link.Sent.{Sent as Handed};
 ghost use Rattle.durable_book.specs.Acts.{DiskRose};
+ghost use Rattle.durable_book.specs.Doubts.{IsLeft};
 ghost use Rattle.durable_book.specs.Faults.{grow_denial};
 ghost use Rattle.timer_work.specs.Going.{Outside, outside};
 ghost use Rattle.timer_work.specs.Parts.{Wants, Handles};
@@ -31,6 +32,7 @@ pub(crate) fn enter_next<K: Keeper, P: Picker>(
     requires wanted { (shard : ℕ) × Wants (K.stands keeper.old) at.0 shard (Enter inc) }
     ensures done { (sent : Perhaps (List Handed)) → Handles (K.stands keeper.old) (K.stands keeper.new) (K.held keeper.new) (K.full keeper.new) at.0 (Enter inc)
         (outside (P.told picker.old) sent) (outside (P.told picker.new) sent) result }
+    ensures left { IfErr result (λ fault. IsLeft (grow_denial fault) (K.doubt keeper.new)) }
     ensures disk { IfErr result (λ fault. DiskRose (K.faults keeper.old) (K.faults keeper.new) (grow_denial fault)) }
     ensures latest { K.latest keeper.new ≤ at.0 }
     ensures faults { K.faults keeper.old ≤ K.faults keeper.new }
@@ -52,6 +54,7 @@ pub(crate) fn close_next<K: Keeper>(
     requires later { K.latest keeper.old ≤ at.0 }
     requires wanted { (reason : Reason) × (shard : ℕ) × Wants (K.stands keeper.old) at.0 shard (Close inc instant reason) }
     ensures done { (reason : Reason) (o : Outside) → Handles (K.stands keeper.old) (K.stands keeper.new) (K.held keeper.new) (K.full keeper.new) at.0 (Close inc instant reason) o o result }
+    ensures left { IfErr result (λ fault. IsLeft (grow_denial fault) (K.doubt keeper.new)) }
     ensures disk { IfErr result (λ fault. DiskRose (K.faults keeper.old) (K.faults keeper.new) (grow_denial fault)) }
     ensures latest { K.latest keeper.new ≤ at.0 }
     ensures faults { K.faults keeper.old ≤ K.faults keeper.new }
@@ -72,6 +75,7 @@ pub(crate) fn complete_next<K: Keeper>(
     requires later { K.latest keeper.old ≤ at.0 }
     requires wanted { (shard : ℕ) × Wants (K.stands keeper.old) at.0 shard (Complete inc) }
     ensures done { (o : Outside) → Handles (K.stands keeper.old) (K.stands keeper.new) (K.held keeper.new) (K.full keeper.new) at.0 (Complete inc) o o result }
+    ensures left { IfErr result (λ fault. IsLeft (grow_denial fault) (K.doubt keeper.new)) }
     ensures disk { IfErr result (λ fault. DiskRose (K.faults keeper.old) (K.faults keeper.new) (grow_denial fault)) }
     ensures latest { K.latest keeper.new ≤ at.0 }
     ensures faults { K.faults keeper.old ≤ K.faults keeper.new }

@@ -3,6 +3,7 @@ ghost use Rattle.std.specs.Prelude.{◌≡◌, ◌≢◌, ℕ, ◌<◌, ◌≤�
 ghost use Rattle.sched_plain.specs.declared.work.Work.TheVariants.{Settled};
 ghost use Rattle.step_keeper.specs.Carrying.{Shows};
 ghost use Rattle.durable_book.specs.Acts.{DiskRose};
+ghost use Rattle.durable_book.specs.Doubts.{IsLeft};
 ghost use Rattle.durable_book.specs.Faults.{grow_denial};
 ghost use Rattle.timer_work.specs.Going.{Outside, outside};
 ghost use Rattle.timer_work.specs.Parts.{LivesAt, Wants, Asks, Moves, Handles, Settles, Marks};
@@ -29,6 +30,7 @@ fn take_shard<K: Keeper>(keeper: &mut K, at: Moment, shard: u8) -> Result<(), Gr
     requires shard { shard < SHARDS }
     requires lives { LivesAt (K.stands keeper.old) at.0 (λ shards. Before (shard ∷ shards)) }
     ensures went { (shards : List ℕ) (o : Outside) → Moves (K.stands keeper.old) (K.stands keeper.new) (K.held keeper.new) (K.full keeper.new) at.0 (Before (shard ∷ shards)) o (AtWork shard shards) o result }
+    ensures left { IfErr result (λ fault. IsLeft (grow_denial fault) (K.doubt keeper.new)) }
     ensures disk { IfErr result (λ fault. DiskRose (K.faults keeper.old) (K.faults keeper.new) (grow_denial fault)) }
     ensures latest { K.latest keeper.new ≤ at.0 }
     ensures faults { K.faults keeper.old ≤ K.faults keeper.new }
@@ -64,6 +66,7 @@ fn do_next<K: Keeper, P: Picker, L: Link>(
     requires some { next ≢ Settled }
     ensures done { Handles (K.stands keeper.old) (K.stands keeper.new) (K.held keeper.new) (K.full keeper.new) at.0 next
         (outside (P.told picker.old) (L.told link.old)) (outside (P.told picker.new) (L.told link.new)) result }
+    ensures left { IfErr result (λ fault. IsLeft (grow_denial fault) (K.doubt keeper.new)) }
     ensures disk { IfErr result (λ fault. DiskRose (K.faults keeper.old) (K.faults keeper.new) (grow_denial fault)) }
     ensures latest { K.latest keeper.new ≤ at.0 }
     ensures faults { K.faults keeper.old ≤ K.faults keeper.new }
@@ -94,6 +97,7 @@ fn work_until_settled<K: Keeper, P: Picker, L: Link>(
     requires lives { LivesAt (K.stands keeper.old) at.0 (AtWork shard) }
     ensures settled { (shards : List ℕ) → Settles (K.stands keeper.old) (K.stands keeper.new) (K.held keeper.new) (K.full keeper.new) at.0 shard shards
         (outside (P.told picker.old) (L.told link.old)) (outside (P.told picker.new) (L.told link.new)) result }
+    ensures left { IfErr result (λ fault. IsLeft (grow_denial fault) (K.doubt keeper.new)) }
     ensures disk { IfErr result (λ fault. DiskRose (K.faults keeper.old) (K.faults keeper.new) (grow_denial fault)) }
     ensures latest { K.latest keeper.new ≤ at.0 }
     ensures faults { K.faults keeper.old ≤ K.faults keeper.new }
@@ -121,6 +125,7 @@ fn mark_swept<K: Keeper>(keeper: &mut K, at: Moment, shard: u8) -> Result<(), Gr
     requires shard { shard < SHARDS }
     requires wanted { Wants (K.stands keeper.old) at.0 shard Settled }
     ensures swept { (shards : List ℕ) (o : Outside) → Marks (K.stands keeper.old) (K.stands keeper.new) (K.held keeper.new) (K.full keeper.new) at.0 shard shards o result }
+    ensures left { IfErr result (λ fault. IsLeft (grow_denial fault) (K.doubt keeper.new)) }
     ensures disk { IfErr result (λ fault. DiskRose (K.faults keeper.old) (K.faults keeper.new) (grow_denial fault)) }
     ensures latest { K.latest keeper.new ≤ at.0 }
     ensures faults { K.faults keeper.old ≤ K.faults keeper.new }
@@ -138,6 +143,7 @@ fn give_back<K: Keeper>(keeper: &mut K, at: Moment, shard: u8) -> Result<(), Gro
     requires shard { shard < SHARDS }
     requires lives { LivesAt (K.stands keeper.old) at.0 (Unreleased shard) }
     ensures went { (shards : List ℕ) (o : Outside) → Moves (K.stands keeper.old) (K.stands keeper.new) (K.held keeper.new) (K.full keeper.new) at.0 (Unreleased shard shards) o (Before shards) o result }
+    ensures left { IfErr result (λ fault. IsLeft (grow_denial fault) (K.doubt keeper.new)) }
     ensures disk { IfErr result (λ fault. DiskRose (K.faults keeper.old) (K.faults keeper.new) (grow_denial fault)) }
     ensures latest { K.latest keeper.new ≤ at.0 }
     ensures faults { K.faults keeper.old ≤ K.faults keeper.new }
@@ -164,6 +170,7 @@ pub(crate) fn sweep_shard<K: Keeper, P: Picker, L: Link>(
     requires lives { LivesAt (K.stands keeper.old) at.0 (λ shards. Before (shard ∷ shards)) }
     ensures went { (shards : List ℕ) → Moves (K.stands keeper.old) (K.stands keeper.new) (K.held keeper.new) (K.full keeper.new) at.0
         (Before (shard ∷ shards)) (outside (P.told picker.old) (L.told link.old)) (Before shards) (outside (P.told picker.new) (L.told link.new)) result }
+    ensures left { IfErr result (λ fault. IsLeft (grow_denial fault) (K.doubt keeper.new)) }
     ensures disk { IfErr result (λ fault. DiskRose (K.faults keeper.old) (K.faults keeper.new) (grow_denial fault)) }
     ensures latest { K.latest keeper.new ≤ at.0 }
     ensures faults { K.faults keeper.old ≤ K.faults keeper.new }

@@ -26,6 +26,7 @@ returns-in_default-standing g c =
           let early = c.mend.ensures.early since h held in
           open_denied h c.args.at.0 c.args.inc c.args.instant c.standing-standing.result (omega (arith, early, later)) c.in_default-standing.not-Exhausted
           (c.standing-standing.ensures h (c.book.ensures.stands since h held)));
+      left = λ own. c.in_default.ensures.doubt;
       disk = tt;
       latest = omega (arith, latest, later);
       faults = c.mend.ensures.faults;

@@ -1,5 +1,5 @@
 use Rattle.std.proofs.Common.{arith}
-use Rattle.durable_writes.proofs.ChangeLemmas.{change_valid, change_follows, change_moment}
+use Rattle.durable_writes.proofs.ChangeLemmas.{change_valid, change_follows, change_moment, change_own}
 use Rattle.durable_writes.proofs.accepting.change.Goals as goal
 
 pub add_lawful-requires-clause-valid : goal.add_lawful-requires-clause-valid
@@ -33,3 +33,8 @@ returns-clause-latest g c =
     let later = c.requires.later in
     let last = c.add_lawful.ensures.latest (omega (arith, same, later)) in
     omega (arith, same, last)
+
+pub returns-in-Err-clause-left : goal.returns-in-Err-clause-left
+returns-in-Err-clause-left g c =
+    let lives = c.requires.lives in
+    c.in-Err.ensures.left (change_own lives.1 c.args.at.0 c.args.write.now c.args.ready (c.requires.ready lives.0 lives.1 lives.2))

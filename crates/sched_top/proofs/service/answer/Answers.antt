@@ -1,4 +1,5 @@
 use Rattle.sched_top.proofs.ServingRequests.{lives_later, stated_turn, unstated_turn}
+use Rattle.sched_top.proofs.ServingDoubts.{same_leaves}
 use Rattle.sched_top.proofs.service.answer.Goals as goal
 
 pub respond-requires-clause-free : goal.respond-requires-clause-free
@@ -10,3 +11,6 @@ returns-in-Ok-clause-turn g c = stated_turn _ _ _ _ _ _ c.args.now.now.0 c.args.
 pub returns-in-Err-clause-turn : goal.returns-in-Err-clause-turn
 returns-in-Err-clause-turn g c =
     unstated_turn _ _ _ _ _ c.args.now.now.0 c.args.request.now _ c.in-Err.fault c.length.result _ c.in-Err.ensures (λ since h held. c.length.ensures h (c.book.ensures.stands since h held)) c.unread.ensures
+
+pub returns-in-Err-clause-left : goal.returns-in-Err-clause-left
+returns-in-Err-clause-left g c = λ own. same_leaves _ _ own

@@ -30,6 +30,7 @@ returns-in-Err g c = record {
       let w = went_before _ c.args.at.0 (Before all_shards) h _ _ _ _ (next_left n c.sweeping-test.true) (c.sweeping.invariant.went since h st fit) in
       stopped_on _ _ _ _ c.args.at.0 (Before all_shards) h _ (Before (n ∷ numbers (n + 1) (SHARDS - (n + 1)))) _ _ w
       (c.in-Err.ensures.went (numbers (n + 1) (SHARDS - (n + 1))) since w.after w.stands w.fit);
+  left = c.in-Err.ensures.left;
   disk = disk_as _ _ _ _ _ c.sweeping.invariant.faults refl c.in-Err.ensures.disk;
   latest = c.sweep_shard.ensures.latest;
   faults = omega (arith, c.sweeping.invariant.faults, c.sweep_shard.ensures.faults);
@@ -52,6 +53,7 @@ pub returns : goal.returns
 returns g c = record {
   went = λ since h st fit.
       went_before _ c.args.at.0 (Before all_shards) h _ _ _ _ (none_left c.sweeping.shard c.sweeping-test.false) (c.sweeping.invariant.went since h st fit);
+  left = tt;
   disk = tt;
   latest = c.sweeping.invariant.latest;
   faults = c.sweeping.invariant.faults;

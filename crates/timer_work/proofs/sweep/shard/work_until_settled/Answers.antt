@@ -33,6 +33,7 @@ returns-in-Err g c = record {
       let w = (c.working.invariant.went shards since h st fit).went in
       stopped_on _ _ _ _ c.args.at.0 (AtWork c.args.shard shards) h _ (AtWork c.args.shard shards) _ _ w
       (c.in-Err.ensures.done since w.after c.args.shard shards w.stands (w.fit, c.working.invariant.asks since w.after w.stands));
+  left = c.in-Err.ensures.left;
   disk = disk_as _ _ _ _ _ c.working.invariant.faults refl c.in-Err.ensures.disk;
   latest = c.do_next.ensures.latest;
   faults = omega (arith, c.working.invariant.faults, c.do_next.ensures.faults);
