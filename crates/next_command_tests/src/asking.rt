@@ -1,4 +1,6 @@
 //! A question asked over devices in memory. Where memory is wanted the test ends.
+ghost use Rattle.std.specs.Prelude.{◌≤◌};
+
 use http_wire::MemSink;
 use next_command::{NextEnd, tell_next};
 use plain_words::{Blob, Moment, ZoneName};
@@ -50,7 +52,9 @@ pub fn check_over(
     failing_sink: &[u64],
     end: NextEnd,
     text: &str,
-) -> Result<(), Fail> {
+) -> Result<(), Fail>
+    requires { 1 ≤ question.count }
+{
     let mut zones = zones_of(rt, alloc, failing_zones)?;
     let mut sink = MemSink::new(alloc, 1_000_000, failing_sink.to_vec(alloc)?);
     let zone = ZoneName::read(alloc, question.zone.as_bytes()).expect(rt, "the name of a zone");
@@ -75,6 +79,8 @@ pub fn check(
     question: Question,
     end: NextEnd,
     text: &str,
-) -> Result<(), Fail> {
+) -> Result<(), Fail>
+    requires { 1 ≤ question.count }
+{
     check_over(rt, alloc, question, &[], &[], end, text)
 }

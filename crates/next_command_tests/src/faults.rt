@@ -1,10 +1,14 @@
 //! Why there is nothing to tell, and devices that fail.
+ghost use Rattle.std.specs.Prelude.{◌≤◌};
+
 use crate::asking::{NEW_YEAR, Question, check, check_over};
 use next_command::NextEnd;
 use std::test::Fail;
 
 /// A question in this zone from the first of January 2026 on, for two instants.
-const fn asked(expression: &'static str, zone: &'static str) -> Question {
+const fn asked(expression: &'static str, zone: &'static str) -> Question
+    ensures { 1 ≤ result.count }
+{
     Question {
         expression,
         zone,

@@ -1,4 +1,6 @@
 //! The instants that are told.
+ghost use Rattle.std.specs.Prelude.{◌≤◌};
+
 use crate::asking::{NEW_YEAR, Question, check};
 use next_command::NextEnd;
 use std::test::Fail;
@@ -30,7 +32,9 @@ fn a_time_that_comes_twice_is_one(rt: HostRuntime) -> Result<(), Fail> {
 }
 
 /// A question in UTC from the first of January 2026 on, for two instants.
-const fn in_utc(expression: &'static str) -> Question {
+const fn in_utc(expression: &'static str) -> Question
+    ensures { 1 ≤ result.count }
+{
     Question {
         expression,
         zone: "UTC",
