@@ -1,0 +1,5 @@
+//! Tests of the plan of a drill.
+#![tactic(auto)]
+
+#[cfg(test)]
+mod plan;
