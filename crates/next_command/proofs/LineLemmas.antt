@@ -1,11 +1,5 @@
--- Lines, one behind another; and which expressions can be searched.
-use Rattle.std.proofs.Common.{◌≡◌, ℕ, ◌≤◌, true, List, [], ◌∷◌, ◌++◌, refl, ap, sym, ◌∙◌, append_assoc, append-nil, length, arith}
-use Rattle.expressions.specs.declared.expression.Expr.{Expr}
-use Rattle.expressions.specs.declared.expression.Expr.TheVariants as exprs
-use Rattle.expressions.specs.Spelling.{Spells, AreRateWords, IsValidExpression}
-use Rattle.expressions.proofs.RealSeconds.{is_civil-true}
-use Rattle.expressions.specs.declared.expression.Unit.{Unit as RateUnit}
-use Rattle.zone_occ.specs.FirstInstants.{IsSearchable}
+-- Lines, one behind another.
+use Rattle.std.proofs.Common.{ℕ, List, [], ◌∷◌, ◌++◌, refl, ap, sym, ◌∙◌, append_assoc, append-nil}
 use Rattle.next_command.specs.Lines.{IsInstantLine, AreInstantLines}
 use Rattle.next_command.specs.Adding.{AddsLine, AddsLines}
 
@@ -26,16 +20,3 @@ adds_more instants instant before text after lines line = record {
   are = lines_more instants instant lines.added line.added lines.are line.is;
   behind = line.behind ∙ ap (λ (t : List ℕ). t ++ line.added) lines.behind ∙ append_assoc before lines.added line.added;
 }
-
--- a rate that is spelled goes on
-counts_up : (words : List (List ℕ)) (count : ℕ) (unit : RateUnit) → AreRateWords words count unit → 1 ≤ count
-counts_up [] count unit are = absurd are
-counts_up (value ∷ []) count unit are = absurd are
-counts_up (value ∷ name ∷ []) count unit (value_is, some, name_is) = some
-counts_up (value ∷ name ∷ more ∷ others) count unit are = absurd are
-
--- an expression that a text spells can be searched
-pub searchable : (expression : Expr) → IsValidExpression expression → IsSearchable expression
-searchable (exprs.At civil) valid = is_civil-true civil valid.spells.0
-searchable (exprs.Rate count unit) valid = counts_up _ count unit valid.spells.spelled
-searchable (exprs.Cron sets) valid = tt

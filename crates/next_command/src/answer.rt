@@ -13,7 +13,7 @@ use expr_grammar::{ExprFault, print_expr, read_expr};
 use expressions::Expr;
 use plain_words::{LAST_MOMENT, Moment, ZoneName};
 use std::alloc::{AllocError, Global};
-use zone_occ::{Zone, ZoneFiles, occurrences};
+use zone_occ::{Zone, ZoneFiles, occurrences, valid_is_searchable};
 
 /// What is answered, as a text of whole lines.
 #[derive(Debug, Drop)]
@@ -49,6 +49,7 @@ fn text_of_instants(
     requires some { 1 ≤ count }
     ensures { IfOk result (λ text. IsListed expression.now zone.now from count text.items) }
 {
+    valid_is_searchable();
     let mut text = print_expr(alloc, expression)?;
     text.push(b'\n')?;
     let first = occurrences(alloc, expression, zone, from, from, LAST_MOMENT, count)?;
